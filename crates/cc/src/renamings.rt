@@ -1,0 +1,1 @@
+//! The renaming: a layer that keeps a list of marks of the system below.

@@ -1,0 +1,12 @@
+pub mod Turns
+pub mod Walks
+pub mod Arcs
+pub mod Insertion
+pub mod Uniqueness
+pub mod Existence
+pub mod Fans
+pub mod Mirrors
+pub mod Counts
+pub mod Renaming
+pub mod Piles
+pub mod Theorems

@@ -1,0 +1,4 @@
+pub mod Systems
+pub mod Outlines
+pub mod Layers
+pub mod Theorems

@@ -1,0 +1,1 @@
+//! Why the library's own systems keep the five laws: definitions and proofs, hardly any code.
