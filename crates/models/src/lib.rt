@@ -1,1 +1,3 @@
 //! Why the library's own systems keep the five laws: definitions and proofs, hardly any code.
+
+pub mod places;
