@@ -1,3 +1,3 @@
 pub mod Turns
 pub mod Refusals
-
+pub mod Names

@@ -7,6 +7,7 @@ pub mod Existence
 pub mod Fans
 pub mod Mirrors
 pub mod Counts
+pub mod Names
 pub mod Renaming
 pub mod Piles
 pub mod Theorems

@@ -5,41 +5,81 @@ use mathlib.Core.List.{List, [], _∷_, _++_, map, reverse, reverse-cons, revers
 use mathlib.Core.Logic.{_≢_, _⊎_, inl, inr, _↔_, Iff·rfl}
 use Prim.Native.Nat.{ℕ, _<_, _≤_}
 use native.Mathlib.Omega.{arith}
-use lib.Dec.{T, T-not, eqb, ltb, leb, eqb-refl, ltb→lt}
-use lib.ListN.{length, getD}
+use borrow.Author.Tests.{le-leb}
+use lib.Dec.{T, leb, leb→le}
+use lib.ListN.{length}
 use Rattle.std.specs.shelf.Lists.{All}
-use Rattle.laws.specs.Systems.{Meaning, Three, Left, Lawful}
+use Rattle.laws.specs.Systems.{Meaning, Three, Left, Right, Lawful}
 use Rattle.laws.specs.Outlines.{Marks, Apart, Outline, none, one, more, Turned}
 use Rattle.laws.specs.Layers.{Layer, mirror, renaming, mirrored, named, picked, image, fresh, different, namable, renamed, pile, means, Meant, odd, backwards-if}
 use Rattle.laws.specs.Theorems.{of}
+use Rattle.laws.proofs.Names.{both, and, different-apart}
 use Rattle.laws.proofs.Existence.{outline-same}
 use Rattle.laws.proofs.Uniqueness.{turned, first-arc}
 use Rattle.laws.proofs.Mirrors.{mirror-lawful, mirror-reverse}
-use Rattle.laws.proofs.Renaming.{picked-lawful, picked-outline, image-marks}
-
-both : (a b : Bool) → T (a && b) → T a × T b
-both true true h = (tt, tt)
-both true false h = absurd h
-both false b h = absurd h
-
-fresh-all : (x : ℕ) (xs : List ℕ) → T (fresh x xs) → All (λ y. y ≢ x) xs
-fresh-all x [] h = tt
-fresh-all x (y ∷ ys) h =
-    let (n, k) = both (not (eqb x y)) (fresh x ys) h in
-    (λ e. T-not (eqb x y) n (subst (λ z. T (eqb x z)) (sym e) (eqb-refl x)), fresh-all x ys k)
-
--- a list that passes the test has different marks below n
-pub different-apart : (n : ℕ) (xs : List ℕ) → T (different n xs) → Apart xs × All (λ x. x < n) xs
-different-apart n [] h = (tt, tt)
-different-apart n (x ∷ xs) h =
-    let (i, k) = both (ltb x n) (fresh x xs && different n xs) h in
-    let (f, d) = both (fresh x xs) (different n xs) k in
-    let (a, s) = different-apart n xs d in
-    ((fresh-all x xs f, a), (ltb→lt x n i, s))
+use Rattle.laws.proofs.Renaming.{in-names, picked-lawful, picked-outline, image-marks}
 
 -- a renaming, accepted or refused
 abbrev with-names : Meaning → List ℕ → Bool → Meaning
 with-names m xs b = record { count = cond b (length xs) 0; left = λ i j k. m .left (named xs i) (named xs j) (named xs k) }
+
+-- below a count that is 0 unless the test passes
+pub passes : (b : Bool) (k n : ℕ) → k < cond b n 0 → T b × (k < n)
+passes true k n h = (tt, h)
+passes false k n h = absurd (omega arith)
+
+chosen : (b : Bool) (n : ℕ) → T b → cond b n 0 ≡ n
+chosen true n h = refl
+chosen false n h = absurd h
+
+rejected : (b : Bool) (n : ℕ) → (T b → ⊥) → cond b n 0 ≡ 0
+rejected true n h = absurd (h tt)
+rejected false n h = refl
+
+module _ (m : Meaning) (xs : List ℕ) where
+  -- the count goes by the largest name, where no name stands twice
+  pub accepted-count : length xs ≤ 128 → T (different (m .count) xs) → renamed m xs .count ≡ length xs
+  accepted-count short d = chosen (namable m xs) (length xs) (and (leb (length xs) 128) (different (m .count) xs) (subst T (sym (le-leb (length xs) 128 short)) tt) d)
+
+  pub refused-count : (T (different (m .count) xs) → ⊥) → renamed m xs .count ≡ 0
+  refused-count d = rejected (namable m xs) (length xs) (λ h. d (both (leb (length xs) 128) (different (m .count) xs) h .1))
+
+  pub long-count : 128 < length xs → renamed m xs .count ≡ 0
+  long-count long = rejected (namable m xs) (length xs) (λ h. omega (arith, leb→le (length xs) 128 (both (leb (length xs) 128) (different (m .count) xs) h .0)))
+
+  module _ {p q r : ℕ} where
+    -- three marks of a renaming mean three marks below
+    pub renamed-three : Three (renamed m xs .count) p q r → Three (m .count) (named xs p) (named xs q) (named xs r)
+    renamed-three t =
+        let (b, i) = passes (namable m xs) p (length xs) (t .p-in) in
+        let d = different-apart (m .count) xs (both (leb (length xs) 128) (different (m .count) xs) b .1) in
+        in-names m xs (d .0) (d .1)
+        (record {
+          p-in = i;
+          q-in = passes (namable m xs) q (length xs) (t .q-in) .1;
+          r-in = passes (namable m xs) r (length xs) (t .r-in) .1;
+          p≢q = t .p≢q;
+          q≢r = t .q≢r;
+          r≢p = t .r≢p;
+        })
+
+    module _ (p-in : p < renamed m xs .count) (q-in : q < renamed m xs .count) (r-in : r < renamed m xs .count) where
+      three-below : Three (m .count) (named xs p) (named xs q) (named xs r) → Three (renamed m xs .count) p q r
+      three-below t =
+          record {
+            p-in = p-in;
+            q-in = q-in;
+            r-in = r-in;
+            p≢q = λ e. t .p≢q (ap (named xs) e);
+            q≢r = λ e. t .q≢r (ap (named xs) e);
+            r≢p = λ e. t .r≢p (ap (named xs) e);
+          }
+
+      pub renamed-left : Left m (named xs p) (named xs q) (named xs r) → Left (renamed m xs) p q r
+      renamed-left l = record { three = three-below (l .three); turns = l .turns }
+
+      pub renamed-right : Right m (named xs p) (named xs q) (named xs r) → Right (renamed m xs) p q r
+      renamed-right l = record { three = three-below (l .three); turns = l .turns }
 
 pub empty-lawful : (m : Meaning) → m .count ≡ 0 → Lawful m
 empty-lawful m e =

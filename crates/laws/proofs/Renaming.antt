@@ -27,20 +27,22 @@ named-apart (x ∷ xs) a (suc i) (suc j) hi hj n e = named-apart xs (a .1) i j (
 pub named-same : (xs : List ℕ) → Apart xs → (i j : ℕ) → i < length xs → j < length xs → named xs i ≡ named xs j → i ≡ j
 named-same xs apart i j hi hj e = elim (other i j) [ inl d ↦ d | inr n ↦ absurd (named-apart xs apart i j hi hj n e) ]
 
-module _ {m : Meaning} (L : Lawful m) (xs : List ℕ) (apart : Apart xs) (small : All (λ x. x < m .count) xs) where
-  in-names : {i j k : ℕ} → Three (length xs) i j k → Three (m .count) (named xs i) (named xs j) (named xs k)
-  in-names t =
-      record {
-        p-in = all-getD _ xs _ 0 (t .p-in) small;
-        q-in = all-getD _ xs _ 0 (t .q-in) small;
-        r-in = all-getD _ xs _ 0 (t .r-in) small;
-        p≢q = named-apart xs apart _ _ (t .p-in) (t .q-in) (t .p≢q);
-        q≢r = named-apart xs apart _ _ (t .q-in) (t .r-in) (t .q≢r);
-        r≢p = named-apart xs apart _ _ (t .r-in) (t .p-in) (t .r≢p);
-      }
+-- three different names are three different marks
+pub in-names : (m : Meaning) (xs : List ℕ) → Apart xs → All (λ x. x < m .count) xs → {i j k : ℕ} → Three (length xs) i j k
+    → Three (m .count) (named xs i) (named xs j) (named xs k)
+in-names m xs apart small t =
+    record {
+      p-in = all-getD _ xs _ 0 (t .p-in) small;
+      q-in = all-getD _ xs _ 0 (t .q-in) small;
+      r-in = all-getD _ xs _ 0 (t .r-in) small;
+      p≢q = named-apart xs apart _ _ (t .p-in) (t .q-in) (t .p≢q);
+      q≢r = named-apart xs apart _ _ (t .q-in) (t .r-in) (t .q≢r);
+      r≢p = named-apart xs apart _ _ (t .r-in) (t .p-in) (t .r≢p);
+    }
 
+module _ {m : Meaning} (L : Lawful m) (xs : List ℕ) (apart : Apart xs) (small : All (λ x. x < m .count) xs) where
   pub left-in : {i j k : ℕ} → Left (picked m xs) i j k → Left m (named xs i) (named xs j) (named xs k)
-  left-in h = record { three = in-names (h .three); turns = h .turns }
+  left-in h = record { three = in-names m xs apart small (h .three); turns = h .turns }
 
   left-out : {i j k : ℕ} → i < length xs → j < length xs → k < length xs → Left m (named xs i) (named xs j) (named xs k) → Left (picked m xs) i j k
   left-out hi hj hk h =
@@ -64,7 +66,7 @@ module _ {m : Meaning} (L : Lawful m) (xs : List ℕ) (apart : Apart xs) (small 
         cyclic = λ h. left-out (h .three .q-in) (h .three .r-in) (h .three .p-in) (L .cyclic (left-in h));
         antisymmetric = λ h k. L .antisymmetric (left-in h) (left-in k);
         nondegenerate = λ t.
-            elim (L .nondegenerate (in-names t)) [
+            elim (L .nondegenerate (in-names m xs apart small t)) [
               | inl h ↦ inl (left-out (t .p-in) (t .q-in) (t .r-in) h)
               | inr h ↦ inr (left-out (t .p-in) (t .r-in) (t .q-in) h)
             ];

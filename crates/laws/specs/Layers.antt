@@ -2,7 +2,7 @@
 use mathlib.Core.Bool.{Bool, true, false, not, cond, _&&_}
 use mathlib.Core.List.{List, [], _∷_, reverse}
 use mathlib.Core.Path.{_≡_}
-use Prim.Native.Nat.{ℕ}
+use Prim.Native.Nat.{ℕ, _+_, max}
 use lib.Dec.{eqb, ltb, leb}
 use lib.ListN.{length, getD}
 use Rattle.laws.specs.Systems.{Meaning}
@@ -37,6 +37,16 @@ fresh x (y ∷ ys) = not (eqb x y) && fresh x ys
 abbrev pub different : ℕ → List ℕ → Bool
 different n [] = true
 different n (x ∷ xs) = ltb x n && (fresh x xs && different n xs)
+
+-- no mark stands twice
+abbrev pub unlike : List ℕ → Bool
+unlike [] = true
+unlike (x ∷ xs) = fresh x xs && unlike xs
+
+-- one past the largest mark
+abbrev pub past : List ℕ → ℕ
+past [] = 0
+past (x ∷ xs) = max (x + 1) (past xs)
 
 -- a renaming is accepted if it has at most 128 entries, different marks of the system below
 abbrev pub namable : Meaning → List ℕ → Bool
