@@ -1,0 +1,10 @@
+pub mod Places
+pub mod Standing
+pub mod Decided
+pub mod OneAnswer
+pub mod Agreeing
+pub mod PiledRings
+pub mod Histories
+pub mod SomeAnswer
+pub mod Growing
+pub mod Leaving
