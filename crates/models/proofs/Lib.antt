@@ -1,0 +1,4 @@
+pub mod Polynomials
+pub mod Signs
+pub mod Plane
+pub mod Firsts

@@ -1,0 +1,3 @@
+pub mod Determinants
+pub mod First
+pub mod Places

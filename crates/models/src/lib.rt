@@ -1,3 +1,14 @@
 //! Why the library's own systems keep the five laws: definitions and proofs, hardly any code.
 
 pub mod places;
+
+ghost use Rattle.models.specs.Determinants.{Signs-keep-the-laws};
+ghost use Rattle.models.specs.Places.{Points-keep-the-laws};
+
+// Systems that go by the signs of determinants: rows in general position, and points of the plane among them.
+pub fn determinants_stand() -> u8
+    ensures signs { λ _. ⌜ Signs-keep-the-laws ⌝ }
+    ensures points { λ _. ⌜ Points-keep-the-laws ⌝ }
+{
+    0
+}

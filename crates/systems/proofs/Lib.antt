@@ -1,0 +1,5 @@
+mod Bounded
+mod Differences
+mod Signs
+mod Good_lists
+mod One_judgement

@@ -1,1 +1,15 @@
 //! CC systems over a list that the caller lends: each is opened by a check of the whole list, and tells its fault where it is refused.
+
+mod geometry;
+pub mod points;
+#[cfg(test)]
+mod tests;
+
+ghost use Rattle.systems.specs.Openings.{One-judgement};
+
+// What an opener answers is the only answer that its contract leaves.
+pub fn openings_stand() -> u8
+    ensures points { λ _. ⌜ One-judgement ⌝ }
+{
+    0
+}

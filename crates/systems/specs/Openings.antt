@@ -1,0 +1,50 @@
+-- What is judged where a list is opened as a system.
+use mathlib.Core.List.{List, []}
+use mathlib.Core.Path.{_≡_}
+use Prim.Native.Nat.{ℕ, _<_, _≤_}
+use lib.ListN.{length}
+use Rattle.std.specs.declared.option.Option.{Option}
+use Rattle.std.specs.declared.option.Option.the-variants.{Some, None}
+use Rattle.cc.specs.declared.faults.Fault.{Fault}
+use Rattle.cc.specs.declared.faults.Fault.the-variants.{Torn, Outsize, Miscounted, Twin, Straight, Circled, Recrossed, LawlessFour, LawlessFive, Stranger, AlreadyIn, Absent, Misnamed, Tight, OffTheEdge}
+use Rattle.models.specs.declared.places.Place.{Place}
+use Rattle.models.specs.First.{First, FirstPair, FirstTriple, NeverPair}
+use Rattle.models.specs.Places.{AllNear, Far, Twins, InLine, Good}
+
+-- a list of places is too long, and the limit tells it, or it has an entry out of range, the first of them
+pub record Outsized (ps : List Place) (at : ℕ) : Type 0 where
+  pub long : 128 < length ps → at ≡ 128
+  pub far : length ps ≤ 128 → First (length ps) (Far ps) at
+
+-- why a list of places is refused: too long, a coordinate out of range, two places alike, three on a line;
+-- the first of these that fits, at the first place in rising order where it does
+abbrev pub Refused : List Place → Fault → Type 0
+Refused ps (Outsize at) = Outsized ps at
+Refused ps (Twin i j) = (length ps ≤ 128) × AllNear ps × FirstPair (length ps) (Twins ps) i j
+Refused ps (Straight i j k) = (length ps ≤ 128) × AllNear ps × NeverPair (length ps) (Twins ps) × FirstTriple (length ps) (InLine ps) i j k
+Refused ps (Torn _) = ⊥
+Refused ps (Miscounted _) = ⊥
+Refused ps (Circled _ _ _) = ⊥
+Refused ps (Recrossed _) = ⊥
+Refused ps (LawlessFour _ _ _ _) = ⊥
+Refused ps (LawlessFive _ _ _ _ _) = ⊥
+Refused ps (Stranger _) = ⊥
+Refused ps (AlreadyIn _) = ⊥
+Refused ps (Absent _) = ⊥
+Refused ps (Misnamed _) = ⊥
+Refused ps (Tight _) = ⊥
+Refused ps (OffTheEdge _) = ⊥
+
+-- the list is accepted, and good, or refused for the fault
+abbrev pub Judged : List Place → Option Fault → Type 0
+Judged ps None = Good ps
+Judged ps (Some f) = Refused ps f
+
+-- the list that is held: none of it where it is refused
+abbrev pub held : {E : Type 0} → Option Fault → List E → List E
+held None es = es
+held (Some _) es = []
+
+-- each list of places is judged in one way, and in no other
+abbrev pub One-judgement : Type 0
+One-judgement = (ps : List Place) (f g : Option Fault) → Judged ps f → Judged ps g → f ≡ g
