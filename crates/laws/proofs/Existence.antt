@@ -44,7 +44,7 @@ outline-of a (b ∷ l) r = more r
 
 module _ {m : Meaning} (L : Lawful m) where
   -- two marks
-  two : {s : ℕ → Type 0} → Marks m s → {a x : ℕ} → s a → s x → x ≢ a → ((p : ℕ) → s p → (p ≡ a) ⊎ (p ≡ x)) → Hull m s (a ∷ x ∷ [])
+  pub two : {s : ℕ → Type 0} → Marks m s → {a x : ℕ} → s a → s x → x ≢ a → ((p : ℕ) → s p → (p ≡ a) ⊎ (p ≡ x)) → Hull m s (a ∷ x ∷ [])
   two {s} marks {a} {x} ha hx n all = whole L marks (on (arc a x ha hx (Ne·symm n) all) (end (arc x a hx ha n (λ p h. ⊎-swap (all p h))))) (n, tt)
     where
       arc : (p q : ℕ) → s p → s q → p ≢ q → ((r : ℕ) → s r → (r ≡ p) ⊎ (r ≡ q)) → Arc m s p q

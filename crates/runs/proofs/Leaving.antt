@@ -42,7 +42,7 @@ pub on-turned : (k l : List ℕ) (x : ℕ) → Turned k l → On k x → On l x
 on-turned k l x (a, b, e, d) o =
     subst (λ y. On y x) (sym d) (elim (on-cases a b x (subst (λ y. On y x) e o)) [ inl i ↦ on-right b a x i | inr i ↦ on-left b a x i ])
 
-turned-back : (k l : List ℕ) → Turned k l → Turned l k
+pub turned-back : (k l : List ℕ) → Turned k l → Turned l k
 turned-back k l (a, b, e, d) = (b, a, d, e)
 
 all-on : (l : List ℕ) → All (On l) l
@@ -118,6 +118,16 @@ module _ {m : Meaning} (L : Lawful m) {s : ℕ → Type 0} (marks : Marks m s) {
         off-new k l (h .1) (i .1),
       )
 
+-- s with x
+pub by-more : {s t : ℕ → Bool} {x : ℕ} → One-more s x t → (p : ℕ) → adding (of s) x p ↔ of t p
+by-more {t = t} {x = x} h p = (
+  λ k. elim (other p x) [
+    | inl e ↦ subst (of t) (sym e) (h .new)
+    | inr n ↦ subst T (h .others p n) (elim k [ inl i ↦ i | inr e ↦ absurd (n e) ])
+  ],
+  λ k. elim (other p x) [ inl e ↦ inr e | inr n ↦ inl (subst T (sym (h .others p n)) k) ],
+)
+
 -- what adding x does to the ring, as the answer has it: nothing if x is inside; otherwise x comes on, and the marks `gone` leave.
 -- Read from t to s it is what taking x does
 pub one-more : {m : Meaning} → Lawful m → (s t : ℕ → Bool) (x : ℕ) (old new : List ℕ) → Marks m (of s) → x < m .count → One-more s x t
@@ -127,7 +137,7 @@ one-more L s t x [] new marks lt h r r′ i = absurd (omega arith)
 one-more {m} L s t x (a ∷ l) new marks lt h r r′ i =
     elim (insert L marks lt (h .was) (to-hull L (r .outline) i)) [
       | inl (_, o) ↦
-          let e = ring-same L marks-t r′ (record { outline = outline-same by-t (λ p q r i j k. Iff·rfl) (outline-of a l o); lowest = r .lowest }) in
+          let e = ring-same L marks-t r′ (record { outline = outline-same (by-more h) (λ p q r i j k. Iff·rfl) (outline-of a l o); lowest = r .lowest }) in
           inl (
             λ k. h .was (ring-in L r (subst (λ y. On y x) e k)),
             e,
@@ -135,7 +145,7 @@ one-more {m} L s t x (a ∷ l) new marks lt h r r′ i =
           )
       | inr g ↦
           let k = ring-with m (of s) (a ∷ l) x g in
-          let tu = turned L marks-t (outline-same by-t (λ p q r i j k. Iff·rfl) (outline-of _ _ (g .hull))) (r′ .outline) in
+          let tu = turned L marks-t (outline-same (by-more h) (λ p q r i j k. Iff·rfl) (outline-of _ _ (g .hull))) (r′ .outline) in
           inr (
             g,
             on-turned k new x tu (on-right (g .first ∷ g .rest) (g .last ∷ x ∷ []) x (1, omega arith, refl)),
@@ -145,15 +155,6 @@ one-more {m} L s t x (a ∷ l) new marks lt h r r′ i =
   where
     marks-t : Marks m (of t)
     marks-t = more-marks m h lt marks
-
-    by-t : (p : ℕ) → adding (of s) x p ↔ of t p
-    by-t p = (
-      λ k. elim (other p x) [
-        | inl e ↦ subst (of t) (sym e) (h .new)
-        | inr n ↦ subst T (h .others p n) (elim k [ inl i ↦ i | inr e ↦ absurd (n e) ])
-      ],
-      λ k. elim (other p x) [ inl e ↦ inr e | inr n ↦ inl (subst T (sym (h .others p n)) k) ],
-    )
 
 -- of three marks that are y or z two are the same
 no-three : (y z a b c : ℕ) → (a ≡ y) ⊎ (a ≡ z) → (b ≡ y) ⊎ (b ≡ z) → (c ≡ y) ⊎ (c ≡ z) → b ≢ a → c ≢ a → c ≢ b → ⊥

@@ -71,7 +71,7 @@ record Set-by (P : ℕ → Type 0) : Type 0 where
 chosen : (P : ℕ → Type 0) → ((p : ℕ) → Or-not (P p)) → Set-by P
 chosen P d = record { set = λ p. test (d p); is = λ p. test-is (d p) }
 
-with-it : (s : ℕ → Bool) (x : ℕ) → (T (s x) → ⊥) → (t : ℕ → Bool) × One-more s x t
+pub with-it : (s : ℕ → Bool) (x : ℕ) → (T (s x) → ⊥) → (t : ℕ → Bool) × One-more s x t
 with-it s x n =
     let c = chosen (λ p. T (s p) ⊎ (p ≡ x)) either in (
       c .set,
@@ -99,7 +99,7 @@ without s P d = chosen (λ p. T (s p) × (P p → ⊥)) both
           | inl h ↦ elim (d p) [ inl i ↦ inr (λ k. k .1 i) | inr i ↦ inl (h, i) ]
         ]
 
-without-it : (s : ℕ → Bool) (x : ℕ) → T (s x) → (t : ℕ → Bool) × One-more t x s
+pub without-it : (s : ℕ → Bool) (x : ℕ) → T (s x) → (t : ℕ → Bool) × One-more t x s
 without-it s x h =
     let c = without s (λ p. p ≡ x) (λ p. other p x) in (
       c .set,
