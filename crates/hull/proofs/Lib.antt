@@ -1,2 +1,4 @@
 pub mod Lists
 pub mod Growth
+pub mod Links
+pub mod Below
