@@ -7,7 +7,7 @@ use lib.ListN.{take}
 use Rattle.laws.specs.Systems.{Meaning}
 use Rattle.laws.specs.Outlines.{Marks, Outline, Turned, Read-out}
 use Rattle.laws.specs.Theorems.{of}
-use Rattle.runs.specs.Calls.{Ring-of, One-more}
+use Rattle.runs.specs.Calls.{On, Ring-of, One-more}
 use Rattle.hull.specs.declared.rings.Ring.{Ring}
 
 -- the marks of the ring, in order
@@ -26,6 +26,14 @@ pub record Beside (m : Meaning) (ring : List ℕ) (x : ℕ) : Type 0 where
   pub is-ring : Ring-of m set ring
   pub x-in : x < m .count
   pub x-out : T (set x) → ⊥
+
+-- the ring is the outline of some marks, and x is one of them and not on it
+pub record Within (m : Meaning) (ring : List ℕ) (x : ℕ) : Type 0 where
+  pub set : ℕ → Bool
+  pub marks : Marks m (of set)
+  pub is-ring : Ring-of m set ring
+  pub x-in : T (set x)
+  pub x-off : On ring x → ⊥
 
 -- what a mark of the ring leaves on the ring around x: by whether x sees the arc to it and the arc from it, nothing, itself, or itself and x
 abbrev pub left-on : Bool → Bool → ℕ → ℕ → List ℕ

@@ -1,8 +1,10 @@
 //! A convex hull over any CC system that changes mark by mark.
 
 pub mod answers;
+mod changing;
 mod growing;
 mod outlining;
+mod placing;
 mod records;
 mod rings;
 mod states;

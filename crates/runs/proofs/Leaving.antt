@@ -7,7 +7,7 @@ use Prim.Native.Nat.{ℕ, zero, suc, _+_, _<_, _≤_}
 use native.Mathlib.Omega.{arith}
 use native.Mathlib.Nat.{zero-add}
 use lib.Dec.{T}
-use lib.ListN.{length, getD}
+use lib.ListN.{length, getD, length-append}
 use Rattle.std.specs.shelf.Lists.{All}
 use Rattle.std.proofs.shelf.Elements.{all-append, all-weaker, all-from-getD}
 use Rattle.laws.specs.Systems.{Meaning, Lawful}
@@ -44,6 +44,9 @@ on-turned k l x (a, b, e, d) o =
 
 pub turned-back : (k l : List ℕ) → Turned k l → Turned l k
 turned-back k l (a, b, e, d) = (b, a, d, e)
+
+pub turned-length : (k l : List ℕ) → Turned k l → length l ≡ length k
+turned-length k l (a, b, e, d) = omega (arith, ap length e, ap length d, length-append a b, length-append b a)
 
 all-on : (l : List ℕ) → All (On l) l
 all-on l = all-from-getD (On l) l 0 (λ i lt. (i, lt, refl))
@@ -132,7 +135,7 @@ by-more {t = t} {x = x} h p = (
 -- Read from t to s it is what taking x does
 pub one-more : {m : Meaning} → Lawful m → (s t : ℕ → Bool) (x : ℕ) (old new : List ℕ) → Marks m (of s) → x < m .count → One-more s x t
     → Ring-of m s old → Ring-of m t new → 2 ≤ length old
-    → ((On new x → ⊥) × (new ≡ old) × Lacking new old 0) ⊎ ((g : Grown m (of s) old x) × On new x × Lacking new old (length (g .gone)))
+    → ((On new x → ⊥) × (new ≡ old) × Lacking new old 0) ⊎ ((g : Grown m (of s) old x) × On new x × Lacking new old (length (g .gone)) × (length new + length (g .gone) ≡ length old + 1))
 one-more L s t x [] new marks lt h r r′ i = absurd (omega arith)
 one-more {m} L s t x (a ∷ l) new marks lt h r r′ i =
     elim (insert L marks lt (h .was) (to-hull L (r .outline) i)) [
@@ -150,6 +153,7 @@ one-more {m} L s t x (a ∷ l) new marks lt h r r′ i =
             g,
             on-turned k new x tu (on-right (g .first ∷ g .rest) (g .last ∷ x ∷ []) x (1, omega arith, refl)),
             lacking-by (λ c. (on-turned k new c tu, on-turned new k c (turned-back k new tu))) (grown-lacking L marks (h .was) (r .outline) g),
+            omega (arith, turned-length k new tu, turned-length (a ∷ l) _ (g .turned), length-append (g .rest) (g .last ∷ x ∷ []), length-append (g .rest) (g .last ∷ g .gone)),
           )
     ]
   where

@@ -54,11 +54,11 @@ step-to a [] b x (i, lt, e) = absurd (omega arith)
 step-to a (c ∷ l) b x (zero, lt, e) = (a, inl (refl, sym e))
 step-to a (c ∷ l) b x (suc i, lt, e) = let (p, k) = step-to c l b x (i, omega arith, e) in (p, inr k)
 
-after-on : (l : List ℕ) (x : ℕ) → On l x → (q : ℕ) × Follows l x q
+pub after-on : (l : List ℕ) (x : ℕ) → On l x → (q : ℕ) × Follows l x q
 after-on [] x (i, lt, e) = absurd (omega arith)
 after-on (a ∷ l) x o = step-from a l a x o
 
-before-on : (l : List ℕ) (x : ℕ) → On l x → (p : ℕ) × Follows l p x
+pub before-on : (l : List ℕ) (x : ℕ) → On l x → (p : ℕ) × Follows l p x
 before-on [] x (i, lt, e) = absurd (omega arith)
 before-on (a ∷ l) x (zero, lt, e) = let (p, k) = step-last a l a in (p, subst (λ y. Step a l a p y) e k)
 before-on (a ∷ l) x (suc i, lt, e) = step-to a l a x (i, omega arith, e)
