@@ -5,3 +5,4 @@ pub mod Below
 pub mod Departing
 pub mod Changes
 pub mod Fanning
+pub mod Layers

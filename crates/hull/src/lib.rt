@@ -4,6 +4,7 @@ pub mod answers;
 mod changing;
 mod growing;
 mod outlining;
+mod peeling;
 mod placing;
 mod records;
 mod rings;

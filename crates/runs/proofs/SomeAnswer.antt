@@ -111,10 +111,10 @@ without-it s x h =
     )
 
 -- how many marks below n are in
-abbrev weigh : Bool → ℕ
+abbrev pub weigh : Bool → ℕ
 weigh b = cond b 1 0
 
-size : (ℕ → Bool) → ℕ → ℕ
+unfoldable pub size : (ℕ → Bool) → ℕ → ℕ
 size s zero = 0
 size s (suc n) = weigh (s n) + size s n
 
@@ -122,7 +122,7 @@ weight : (b : Bool) → T b → weigh b ≡ 1
 weight true h = refl
 weight false h = absurd h
 
-lighter : (a b : Bool) → (T a → T b) → weigh a ≤ weigh b
+pub lighter : (a b : Bool) → (T a → T b) → weigh a ≤ weigh b
 lighter true true f = omega arith
 lighter true false f = absurd (f tt)
 lighter false true f = omega arith
@@ -132,7 +132,7 @@ none-weighs : (b : Bool) → (T b → ⊥) → weigh b ≡ 0
 none-weighs true f = absurd (f tt)
 none-weighs false f = refl
 
-size-in : (s : ℕ → Bool) (n p : ℕ) → p < n → T (s p) → 0 < size s n
+pub size-in : (s : ℕ → Bool) (n p : ℕ) → p < n → T (s p) → 0 < size s n
 unfolding size
 size-in s zero p lt h = absurd (omega arith)
 size-in s (suc n) p lt h =
@@ -147,7 +147,7 @@ module _ (s t : ℕ → Bool) (sub : (p : ℕ) → T (t p) → T (s p)) where
   size-less zero = omega arith
   size-less (suc n) = let i = size-less n in let w = lighter (t n) (s n) (sub n) in omega arith
 
-  size-lost : (n q : ℕ) → q < n → T (s q) → (T (t q) → ⊥) → size t n < size s n
+  pub size-lost : (n q : ℕ) → q < n → T (s q) → (T (t q) → ⊥) → size t n < size s n
   unfolding size
   size-lost zero q lt h k = absurd (omega arith)
   size-lost (suc n) q lt h k =
