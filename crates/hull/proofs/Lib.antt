@@ -6,3 +6,4 @@ pub mod Departing
 pub mod Changes
 pub mod Fanning
 pub mod Layers
+pub mod OfWords

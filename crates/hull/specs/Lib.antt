@@ -1,3 +1,4 @@
 pub mod Rings
 pub mod Records
 pub mod Replies
+pub mod Words

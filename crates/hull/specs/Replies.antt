@@ -1,13 +1,14 @@
 -- What the code's answers say: each as an answer to a call.
-use mathlib.Core.List.{List, []}
+use mathlib.Core.List.{List, [], _++_}
 use mathlib.Core.Path.{_≡_}
-use Prim.Native.Nat.{ℕ, _+_, _-_}
-use lib.ListN.{length}
+use Prim.Native.Nat.{ℕ, _+_, _-_, _<_, _≤_}
+use lib.ListN.{length, drop}
 use Rattle.std.specs.declared.option.Option.{Option}
 use Rattle.std.specs.declared.option.Option.the-variants.{Some, None}
 use Rattle.std.specs.declared.result.Result.{Result}
 use Rattle.std.specs.declared.result.Result.the-variants.{Ok, Err}
 use Rattle.cc.specs.declared.faults.Fault.{Fault}
+use Rattle.cc.specs.declared.faults.Fault.the-variants.{Tight}
 use Rattle.runs.specs.Calls.{edge, inside, Answer, added, dropped, at, within, beside, wrote, declined, On}
 use Rattle.runs.specs.Calls.{Side as Standing}
 use Rattle.hull.specs.declared.answers.Side.{Side}
@@ -51,3 +52,8 @@ Exchanged old new x (Some n) = On new x × (n ≡ length old + 1 - length new)
 abbrev pub added-by : Option ℕ → Added
 added-by None = record { side = Inside; left = 0 }
 added-by (Some n) = record { side = Edge; left = n }
+
+-- the ring was written at the front of the list, or the list is too short for it and stays as it was
+abbrev pub Copied : List ℕ → List ℕ → List ℕ → Result ℕ Fault → Type 0
+Copied ring before after (Ok n) = (n ≡ length ring) × (length ring ≤ length before) × (after ≡ ring ++ drop (length ring) before)
+Copied ring before after (Err f) = (f ≡ Tight (length ring)) × (length before < length ring) × (after ≡ before)

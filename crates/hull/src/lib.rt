@@ -9,3 +9,4 @@ mod placing;
 mod records;
 mod rings;
 mod states;
+mod writing;
