@@ -8,5 +8,6 @@ mod peeling;
 mod placing;
 mod records;
 mod rings;
+mod seals;
 mod states;
 mod writing;
