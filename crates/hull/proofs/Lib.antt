@@ -9,3 +9,4 @@ pub mod Layers
 pub mod OfWords
 pub mod Sealing
 pub mod OfRows
+pub mod Telling
