@@ -43,7 +43,13 @@ impl<S: CcSystem> Renaming<S> {
         ensures system { λ r. ⌜ Same (renamed (S·CcSystem .meaning (r .below)) (take (r .len) (r .names))) (renamed (S·CcSystem .meaning below) (now (names .entry))) ⌝ }
     {
         if let Some(fault) = misnamed(below.count(), names) {
-            return Renaming { below, names: [0; 128], len: 0, top: 0, fault: Some(fault) };
+            return Renaming {
+                below,
+                names: [0; 128],
+                len: 0,
+                top: 0,
+                fault: Some(fault),
+            };
         }
         Renaming::holding(below, names)
     }
@@ -61,7 +67,13 @@ impl<S: CcSystem> Renaming<S> {
         let top = past_largest(list);
         let mut names = [0; 128];
         names[0..len].copy_from_slice(list);
-        Renaming { below, names, len, top, fault: None }
+        Renaming {
+            below,
+            names,
+            len,
+            top,
+            fault: None,
+        }
     }
 
     // Why the list was refused; none where it was accepted.
@@ -85,7 +97,13 @@ impl<S: CcSystem> Renaming<S> {
     pub fn take_off(self) -> S
         ensures below { λ s. ⌜ s ≡ self .below ⌝ }
     {
-        let Renaming { below, names: _, len: _, top: _, fault: _ } = self;
+        let Renaming {
+            below,
+            names: _,
+            len: _,
+            top: _,
+            fault: _,
+        } = self;
         below
     }
 }
@@ -96,7 +114,11 @@ pub impl<S: CcSystem> CcSystem for Renaming<S> as RenamingSystem {
     ghost lawful = { λ r. renamed-lawful (S·CcSystem .lawful (r .below)) (take (r .len) (r .names)) };
 
     fn count(&self) -> usize {
-        if self.top <= self.below.count() { self.len } else { 0 }
+        if self.top <= self.below.count() {
+            self.len
+        } else {
+            0
+        }
     }
 
     fn turn(&self, p: usize, q: usize, r: usize) -> Option<Turn> {

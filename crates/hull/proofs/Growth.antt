@@ -54,7 +54,7 @@ module _ (sees : ℕ → ℕ → Bool) (x : ℕ) where
   grown-more b seen l i h e =
       let z = getD l 0 0 in
       let e′ : sees (getD l i 0) (after (drop (suc i) l) z) ≡ seen =
-          ap (sees (getD l i 0)) (after-at l i z h ∙ ap (λ k. getD k i 0) (rotated-is l (omega arith))) ∙ sym e in
+      ap (sees (getD l i 0)) (after-at l i z h ∙ ap (λ k. getD k i 0) (rotated-is l (omega arith))) ∙ sym e in
       ap (λ k. grown b k z) (drop-cons l i 0 h)
       ∙ ap (λ s. left-on b s (getD l i 0) x ++ grown s (drop (suc i) l) z) e′
       ∙ ap (λ k. left-on b seen (getD l i 0) x ++ grown seen (drop k l) z) (sym (add-one i))

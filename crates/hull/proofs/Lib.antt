@@ -10,3 +10,4 @@ pub mod OfWords
 pub mod Sealing
 pub mod OfRows
 pub mod Telling
+pub mod Recording

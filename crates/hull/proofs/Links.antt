@@ -74,7 +74,7 @@ link-more rs l i rec h hp hq old k lt =
           let (a, b) = old k lk in (
             other-after rs p q hp hq (getD l k 0) (named-apart l (rec .apart) k i (omega arith) h n) ∙ a,
             other-before rs p q hp hq (getD (rotated l) k 0)
-            (named-apart (rotated l) (rec .apart-next) k i (omega (arith, rotated-length l)) (omega (arith, rotated-length l)) n) ∙ b,
+                (named-apart (rotated l) (rec .apart-next) k i (omega (arith, rotated-length l)) (omega (arith, rotated-length l)) n) ∙ b,
           )
     ]
   where

@@ -60,7 +60,7 @@ word-bit f a (suc n) zero h =
 word-bit f a (suc n) (suc k) h =
     let w : ℕ = b01 (f a) + 2 * word-of f (a + 1) n in
     let e : w / 2 ^ suc k ≡ word-of f (a + 1) n / 2 ^ k =
-        ap (λ j. w / 2 ^ j) (sym (one-add k)) ∙ sym (shr-shr w 1 k) ∙ ap (λ x. x / 2 ^ k) (rest (f a) (word-of f (a + 1) n)) in
+    ap (λ j. w / 2 ^ j) (sym (one-add k)) ∙ sym (shr-shr w 1 k) ∙ ap (λ x. x / 2 ^ k) (rest (f a) (word-of f (a + 1) n)) in
     ap (λ x. eqb (x % 2) 1) e ∙ word-bit f (a + 1) n k (omega arith) ∙ ap f (omega arith)
 
 -- one more bit above

@@ -29,9 +29,9 @@ abbrev pub seal : Val
 seal = vstruct (vcons mark vnil)
 
 module _ (Y : RattleType) (g : Ghosts (Y .Denot)) {M : Type 1} (𝓤 : URA M) (H : Heap 𝓤) (A : Atoms 𝓤) (W : Given 𝓤 H A) where
-  pub made : (x : Y .Denot) (rows : List (Bool × (ℕ × ℕ))) (ring : List ℕ) → Sound (g .meaning x) (of-rows rows) ring → ent 𝓤 (emp 𝓤) (sem 𝓤 H A (S.the-row (param 0 Y) g .own (record { marker = record { }; system = x; rows = rows; ring = ring }) (seal ∷ [])))
+  pub made : (x : Y .Denot) (rows : List (Bool × (ℕ × ℕ))) (ring : List ℕ) → Sound (g .meaning x) (of-rows rows) ring → ent 𝓤 (emp 𝓤) (sem 𝓤 H A (S.the-row (param 0 Y) g .own (record { marker = record {}; system = x; rows = rows; ring = ring }) (seal ∷ [])))
   made x rows ring h = qed W (raw (emp 𝓤) ∷ []) ∵ drop ! $
       nothing ! $ feqI ! (List Val) (mark ∷ []) (mark ∷ []) refl $ fjoin ! $ fpack ! (Valss []) (within (declared.shape (P.the-type (param 0 Y))) tt (mark ∷ [])) tt $
       nothing ! $ move ! (1 ∷ 0 ∷ []) $ fjoin ! $ feqI ! (List Val) (seal ∷ []) (seal ∷ []) refl $ fjoin ! $
-      fpack ! (Valss (P.the-row (param 0 Y) ∷ [])) (within (shape (S.the-type (param 0 Y) g)) (record { }, tt) (seal ∷ [])) (mark ∷ [], tt) $
+      fpack ! (Valss (P.the-row (param 0 Y) ∷ [])) (within (shape (S.the-type (param 0 Y) g)) (record {}, tt) (seal ∷ [])) (mark ∷ [], tt) $
       nothing ! $ fpack ! (Sound (g .meaning x) (of-rows rows) ring) (λ _. ftrue) h $ move ! (1 ∷ 0 ∷ []) $ fjoin ! $ done !

@@ -4,3 +4,4 @@ pub mod Replies
 pub mod Words
 pub mod Facts
 pub mod Rows
+pub mod Histories

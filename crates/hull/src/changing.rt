@@ -1,7 +1,7 @@
 //! A mark is added or dropped.
 
 ghost use mathlib.Core.Path.{_≡_};
-ghost use Rattle.std.specs.declared.result.Result.the-variants.{Ok, Err};
+ghost use Rattle.std.specs.Results.{Cases};
 ghost use Rattle.runs.specs.Calls.{One-more, Answers, add, drop};
 ghost use Rattle.hull.specs.Rings.{listed};
 ghost use Rattle.hull.specs.Records.{held, Sound};
@@ -30,8 +30,14 @@ impl Added {
         ensures by { λ a. ⌜ a ≡ added-by «pushed_off» ⌝ }
     {
         match pushed_off {
-            Some(left) => Added { side: Side::Edge, left },
-            None => Added { side: Side::Inside, left: 0 },
+            Some(left) => Added {
+                side: Side::Edge,
+                left,
+            },
+            None => Added {
+                side: Side::Inside,
+                left: 0,
+            },
         }
     }
 }
@@ -41,7 +47,7 @@ impl HullState {
     pub(crate) fn add<S: CcSystem>(&mut self, system: &S, x: usize) -> Result<Added, Fault>
         requires sound { ⌜ Sound (S·CcSystem .meaning (now system)) (now self .records) (listed (now self .ring)) ⌝ }
         ensures answers { λ r. ⌜ Answers (S·CcSystem .meaning (now (system .entry))) (held (now (self .entry) .records)) (add x) (added-answer r) ⌝ }
-        ensures marks { λ r. ⌜ elim r [ Ok _ ↦ One-more (held (now (self .entry) .records)) x (held (now (self .exit) .records)) | Err _ ↦ now (self .exit) ≡ now (self .entry) ] ⌝ }
+        ensures marks { λ r. ⌜ Cases r (λ _. One-more (held (now (self .entry) .records)) x (held (now (self .exit) .records))) (λ _. now (self .exit) ≡ now (self .entry)) ⌝ }
         ensures sound { λ _. ⌜ Sound (S·CcSystem .meaning (now (system .entry))) (now (self .exit) .records) (listed (now (self .exit) .ring)) ⌝ }
     {
         if x >= system.count() {
@@ -61,7 +67,7 @@ impl HullState {
     pub(crate) fn remove<S: CcSystem>(&mut self, system: &S, x: usize) -> Result<usize, Fault>
         requires sound { ⌜ Sound (S·CcSystem .meaning (now system)) (now self .records) (listed (now self .ring)) ⌝ }
         ensures answers { λ r. ⌜ Answers (S·CcSystem .meaning (now (system .entry))) (held (now (self .entry) .records)) (drop x) (dropped-answer r) ⌝ }
-        ensures marks { λ r. ⌜ elim r [ Ok _ ↦ One-more (held (now (self .exit) .records)) x (held (now (self .entry) .records)) | Err _ ↦ now (self .exit) ≡ now (self .entry) ] ⌝ }
+        ensures marks { λ r. ⌜ Cases r (λ _. One-more (held (now (self .exit) .records)) x (held (now (self .entry) .records))) (λ _. now (self .exit) ≡ now (self .entry)) ⌝ }
         ensures sound { λ _. ⌜ Sound (S·CcSystem .meaning (now (system .entry))) (now (self .exit) .records) (listed (now (self .exit) .ring)) ⌝ }
     {
         if x >= system.count() {

@@ -28,7 +28,10 @@ impl Ring {
     pub(crate) fn empty() -> Ring
         ensures none { λ r. ⌜ listed r ≡ [] ⌝ }
     {
-        Ring { marks: [0; 128], len: 0 }
+        Ring {
+            marks: [0; 128],
+            len: 0,
+        }
     }
 
     // One mark more at the end.
@@ -47,7 +50,11 @@ impl Ring {
         requires within { ⌜ i < now self .len ⌝ }
         ensures after { λ q. ⌜ q ≡ getD (rotated (listed (now (self .entry)))) i 0 ⌝ }
     {
-        if i + 1 < self.len { self.marks[i + 1] } else { self.marks[0] }
+        if i + 1 < self.len {
+            self.marks[i + 1]
+        } else {
+            self.marks[0]
+        }
     }
 
     // Where x stands on the ring.

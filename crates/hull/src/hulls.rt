@@ -4,7 +4,7 @@ ghost use mathlib.Core.Path.{_≡_};
 ghost use mathlib.Core.Bool.{false};
 ghost use Prim.Native.Nat.{ℕ};
 ghost use lib.ListN.{take};
-ghost use Rattle.std.specs.declared.result.Result.the-variants.{Ok, Err};
+ghost use Rattle.std.specs.Results.{Cases};
 ghost use Rattle.runs.specs.Calls.{One-more, Answers, add, drop, place, neighbours, outline, rounds};
 ghost use Rattle.hull.specs.Rings.{listed};
 ghost use Rattle.hull.specs.Records.{held, Sound};
@@ -39,14 +39,22 @@ impl<S: CcSystem> DynamicHull<S> {
     {
         let state = HullState::empty();
         let seal = Seal::of(&system, &state);
-        DynamicHull { system, state, seal }
+        DynamicHull {
+            system,
+            state,
+            seal,
+        }
     }
 
     // Gives back the system.
     pub fn take_off(self) -> S
         ensures system { λ s. ⌜ s ≡ self .system ⌝ }
     {
-        let DynamicHull { system, state: _, seal: _ } = self;
+        let DynamicHull {
+            system,
+            state: _,
+            seal: _,
+        } = self;
         system
     }
 
@@ -60,7 +68,7 @@ impl<S: CcSystem> DynamicHull<S> {
     // Puts mark m in.
     pub fn add(&mut self, m: usize) -> Result<Added, Fault>
         ensures answer { λ r. ⌜ Answers (S·CcSystem .meaning (now (self .entry) .system)) (held (now (self .entry) .state .records)) (add m) (added-answer r) ⌝ }
-        ensures marks { λ r. ⌜ elim r [ Ok _ ↦ One-more (held (now (self .entry) .state .records)) m (held (now (self .exit) .state .records)) | Err _ ↦ now (self .exit) .state ≡ now (self .entry) .state ] ⌝ }
+        ensures marks { λ r. ⌜ Cases r (λ _. One-more (held (now (self .entry) .state .records)) m (held (now (self .exit) .state .records))) (λ _. now (self .exit) .state ≡ now (self .entry) .state) ⌝ }
         ensures system { λ _. ⌜ now (self .exit) .system ≡ now (self .entry) .system ⌝ }
     {
         self.sound();
@@ -72,7 +80,7 @@ impl<S: CcSystem> DynamicHull<S> {
     // Takes mark m out.
     pub fn drop(&mut self, m: usize) -> Result<usize, Fault>
         ensures answer { λ r. ⌜ Answers (S·CcSystem .meaning (now (self .entry) .system)) (held (now (self .entry) .state .records)) (drop m) (dropped-answer r) ⌝ }
-        ensures marks { λ r. ⌜ elim r [ Ok _ ↦ One-more (held (now (self .exit) .state .records)) m (held (now (self .entry) .state .records)) | Err _ ↦ now (self .exit) .state ≡ now (self .entry) .state ] ⌝ }
+        ensures marks { λ r. ⌜ Cases r (λ _. One-more (held (now (self .exit) .state .records)) m (held (now (self .entry) .state .records))) (λ _. now (self .exit) .state ≡ now (self .entry) .state) ⌝ }
         ensures system { λ _. ⌜ now (self .exit) .system ≡ now (self .entry) .system ⌝ }
     {
         self.sound();

@@ -3,6 +3,7 @@
 pub mod answers;
 mod changing;
 mod growing;
+pub mod histories;
 pub mod hulls;
 mod outlining;
 mod peeling;

@@ -38,7 +38,11 @@ fn peel(ring: &Ring, round: usize, flags: &mut [bool; 128], entries: &mut [usize
 }
 
 // Enters the round of each flagged mark, and 0 for each other; the number of rounds.
-pub(crate) fn rounds_of<S: CcSystem>(system: &S, flags: &mut [bool; 128], entries: &mut [usize]) -> usize
+pub(crate) fn rounds_of<S: CcSystem>(
+    system: &S,
+    flags: &mut [bool; 128],
+    entries: &mut [usize],
+) -> usize
     requires marks { ⌜ Marks (S·CcSystem .meaning (now system)) (of (flagged (now flags))) ⌝ }
     requires room { ⌜ S·CcSystem .meaning (now system) .count ≤ length (now entries) ⌝ }
     ensures rounds { λ n. ⌜ Rounds (S·CcSystem .meaning (now (system .entry))) (flagged (now (flags .entry))) (take (S·CcSystem .meaning (now (system .entry)) .count) (now (entries .exit))) n ⌝ }

@@ -55,7 +55,11 @@ impl HullState {
     }
 
     // The marks before x and after it on the outline.
-    pub(crate) fn neighbours<S: CcSystem>(&self, system: &S, x: usize) -> Result<(usize, usize), Fault>
+    pub(crate) fn neighbours<S: CcSystem>(
+        &self,
+        system: &S,
+        x: usize,
+    ) -> Result<(usize, usize), Fault>
         requires sound { ⌜ Sound (S·CcSystem .meaning (now system)) (now self .records) (listed (now self .ring)) ⌝ }
         ensures answers { λ r. ⌜ Answers (S·CcSystem .meaning (now (system .entry))) (held (now (self .entry) .records)) (neighbours x) (neighbours-answer r) ⌝ }
     {

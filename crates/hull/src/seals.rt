@@ -28,13 +28,14 @@ impl<S: CcSystem> Seal<S> {
         requires { ⌜ Sound (S·CcSystem .meaning (now system)) (now state .records) (listed (now state .ring)) ⌝ }
         ensures { λ s. ⌜ (s .system ≡ now (system .entry)) × (s .rows ≡ rows-of (now (state .entry) .records)) × (s .ring ≡ listed (now (state .entry) .ring)) ⌝ }
     {
-        Seal { marker: PhantomData }
+        Seal {
+            marker: PhantomData,
+        }
     }
 
     pub(crate) fn says(&self)
         ensures { λ _. ⌜ Sound (S·CcSystem .meaning (now (self .entry) .system)) (of-rows (now (self .entry) .rows)) (now (self .entry) .ring) ⌝ }
-    {
-    }
+    {}
 }
 
 impl<S: CcSystem> Drop for Seal<S> {

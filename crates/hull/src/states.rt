@@ -17,7 +17,11 @@ impl HullState {
         ensures ring { λ s. ⌜ length (listed (s .ring)) ≡ 0 ⌝ }
     {
         HullState {
-            records: [Record { is_in: false, before: 0, after: 0 }; 128],
+            records: [Record {
+                is_in: false,
+                before: 0,
+                after: 0,
+            }; 128],
             ring: Ring::empty(),
         }
     }

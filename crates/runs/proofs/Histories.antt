@@ -16,7 +16,7 @@ use Rattle.cc.specs.declared.faults.Fault.the-variants.{Stranger}
 use Rattle.runs.specs.Calls.{Call, add, drop, place, neighbours, outline, rounds, Side, Answer, added, dropped, at, within, beside, wrote, declined, On, Ring-of, Fan, fan}
 use Rattle.runs.specs.Calls.{Answers, adds, stranger, already-in, absent}
 use Rattle.laws.specs.Layers.{pile}
-use Rattle.runs.specs.Runs.{Declined, History, At, Done, up-to, In, Has-in, As-defined, Same-answers, Same-ring, Whole, Right, Right-is-enough}
+use Rattle.runs.specs.Runs.{Question, place?, neighbours?, outline?, rounds?, Declined, History, At, Done, up-to, In, Has-in, As-defined, Same-answers, Same-ring, Whole, Right, Right-is-enough}
 use Rattle.laws.proofs.Walks.{other}
 use Rattle.laws.proofs.Existence.{to-hull}
 use Rattle.laws.proofs.Fans.{some-around, three-or-more}
@@ -65,6 +65,24 @@ refused (within a b) = 0
 refused (beside a b) = 0
 refused (wrote n l) = 0
 refused (declined f p) = 1
+
+pub never-added : {side : Side} {n : ℕ} → Declined (added side n) → ⊥
+never-added (f, l, e) = let i = ap refused e in omega arith
+
+pub never-dropped : {n : ℕ} → Declined (dropped n) → ⊥
+never-dropped (f, l, e) = let i = ap refused e in omega arith
+
+pub no-add : {c : Call} {p : ℕ} → Question c → c ≡ add p → ⊥
+no-add place? e = let i = ap tag e in omega arith
+no-add neighbours? e = let i = ap tag e in omega arith
+no-add outline? e = let i = ap tag e in omega arith
+no-add rounds? e = let i = ap tag e in omega arith
+
+pub no-drop : {c : Call} {p : ℕ} → Question c → c ≡ drop p → ⊥
+no-drop place? e = let i = ap tag e in omega arith
+no-drop neighbours? e = let i = ap tag e in omega arith
+no-drop outline? e = let i = ap tag e in omega arith
+no-drop rounds? e = let i = ap tag e in omega arith
 
 same-call : (f : ℕ → Call) → ((x : ℕ) → number (f x) ≡ x) → (x p : ℕ) → Or-not (f x ≡ f p)
 same-call f e x p = elim (other x p) [ inl i ↦ inl (ap f i) | inr n ↦ inr (λ i. n (sym (e x) ∙ ap number i ∙ e p)) ]

@@ -20,7 +20,7 @@ returns-then-names-i c =
               | then-names-i·by·else-names-i·then-repeats w ↦ inr (w .if-repeats .ensures tt .repeats)
             ];
             before = c .loop-i .inv;
-          })
+          });
     }
 
 pub returns : need.returns

@@ -40,7 +40,7 @@ peel-requires g c κs =
           let k = c .pre .marks _ (c .loop-round .inv .within _ (all-getD (of u) ring i 0 h (outline-in (c .outline-of-ring .ensures .ring .outline)))) in (
             omega (arith, g .S·CcSystem .lawful (c .args .system .now) .limit),
             omega (arith, c .loop-round .inv .same-length, c .clear .kept .entries, c .pre .room),
-          )
+          );
     }
 
 pub loop-round-again : need.loop-round-again

@@ -10,7 +10,7 @@ returns-then-self-count g c =
     let r = c .args .self .now in
     record {
       marks = count-shown (g .S·CcSystem .meaning (r .below)) (take (r .len) (r .names)) (r .len) (r .top)
-          (omega (arith, length-take (r .len) (r .names), r .long, r .short)) (r .short) (r .apart) (r .reach) (omega (arith, c .if-self-count .taken, c .count .ensures .marks))
+          (omega (arith, length-take (r .len) (r .names), r .long, r .short)) (r .short) (r .apart) (r .reach) (omega (arith, c .if-self-count .taken, c .count .ensures .marks));
     }
 
 pub returns-else-self-count : need.returns-else-self-count
@@ -18,5 +18,5 @@ returns-else-self-count g c =
     let r = c .args .self .now in
     record {
       marks = count-hidden (g .S·CcSystem .meaning (r .below)) (take (r .len) (r .names)) (r .len) (r .top)
-          (omega (arith, length-take (r .len) (r .names), r .long, r .short)) (r .short) (r .apart) (r .reach) (omega (arith, c .if-self-count .left, c .count .ensures .marks))
+          (omega (arith, length-take (r .len) (r .names), r .long, r .short)) (r .short) (r .apart) (r .reach) (omega (arith, c .if-self-count .left, c .count .ensures .marks));
     }

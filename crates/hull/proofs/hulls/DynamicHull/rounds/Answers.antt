@@ -27,5 +27,5 @@ returns g c =
     let after = c .rounds-of .last .entries in
     record {
       answer = counts-by (c .args .list .now) after (c .rounds-of .result) (omega (arith, c .count-count .ensures .marks, c .if-list-count .left))
-          (subst (λ s. Rounds m s (take (m .count) after) (c .rounds-of .result)) (fun-ext (c .flags-flags .ensures .flags)) (c .rounds-of .ensures .rounds)) (c .rounds-of .ensures .rest)
+          (subst (λ s. Rounds m s (take (m .count) after) (c .rounds-of .result)) (fun-ext (c .flags-flags .ensures .flags)) (c .rounds-of .ensures .rounds)) (c .rounds-of .ensures .rest);
     }

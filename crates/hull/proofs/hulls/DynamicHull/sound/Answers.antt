@@ -10,5 +10,5 @@ returns g c =
     let h = c .args .self .now in
     record {
       sound = subst (λ m. Sound m (h .state .records) (listed (h .state .ring))) (ap (g .S·CcSystem .meaning) (h .sealed))
-          (subst₂ (Sound (g .S·CcSystem .meaning (h .seal .system))) (ap of-rows (h .tied) ∙ of-rows-of (h .state .records)) (h .ringed) (c .says .ensures))
+          (subst₂ (Sound (g .S·CcSystem .meaning (h .seal .system))) (ap of-rows (h .tied) ∙ of-rows-of (h .state .records)) (h .ringed) (c .says .ensures));
     }

@@ -33,7 +33,7 @@ settle-requires g c κs =
     let x-in : x < m .count = omega (arith, c .if-x-count .left, c .count .ensures .marks) in
     let (t, one) = with-it s x (λ h. subst T (c .if-self-x .left) h) in
     record {
-      recorded = recorded L (more-marks m one x-in (c .pre .sound .marks)) (c .grow-ring .ensures .grows s t (c .pre .sound .marks) (c .pre .sound .is-ring) one)
+      recorded = recorded L (more-marks m one x-in (c .pre .sound .marks)) (c .grow-ring .ensures .grows s t (c .pre .sound .marks) (c .pre .sound .is-ring) one);
     }
 
 pub returns : need.returns
@@ -46,7 +46,7 @@ returns g c =
     let x = c .args .x in
     let x-in : x < m .count = omega (arith, c .if-x-count .left, c .count .ensures .marks) in
     let same : (p : ℕ) → held (new .records) p ≡ held (with-held (old .records) x true) p =
-        λ p. c .settle .ensures .marks p ∙ ap (λ rs. held rs p) (c .set-in .ensures .records) in
+    λ p. c .settle .ensures .marks p ∙ ap (λ rs. held rs p) (c .set-in .ensures .records) in
     let one = held-added (old .records) (new .records) x (omega (arith, L .limit, old .long)) (c .if-self-x .left) same in
     let next = sound-added L (old .records) (new .records) x (listed (old .ring)) ring (c .pre .sound) x-in one (c .grow-ring .ensures .grows) (c .settle .ensures .links) in
     record {

@@ -27,5 +27,5 @@ returns c =
         high = λ k h. ap (λ w. bit w k) high ∙ word-bit f 64 64 k h;
         size = ap₂ (λ x y. x + y) (ap ones low ∙ word-ones f 0 64) (ap ones high ∙ word-ones f 64 64) ∙ how-many-both f 0 64 64;
         ones = refl;
-      }
+      };
     }

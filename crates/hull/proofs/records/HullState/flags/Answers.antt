@@ -16,5 +16,5 @@ returns c =
         | no h ↦
             List·getD-eq-default (c .loop-p .flags) false {n = p} (omega (arith, c .loop-p .inv .0))
             ∙ sym (ap (λ (r : Record). r .«is_in») (List·getD-eq-default (s .records) away {n = p} (omega (arith, s .long))))
-      ]
+      ];
     }

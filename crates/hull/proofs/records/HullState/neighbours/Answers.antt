@@ -28,5 +28,5 @@ returns g c =
     let (b, f′) = after-on ring x (_, lt, e) in
     record {
       answers = subst₂ (λ p q. Answers m (held (s .records)) (neighbours x) (beside p q)) (sym (c .pre .sound .links a x f .1)) (sym (c .pre .sound .links x b f′ .0))
-          (has-beside (c .pre .sound .is-ring) f f′)
+          (has-beside (c .pre .sound .is-ring) f f′);
     }

@@ -51,7 +51,7 @@ returns g c =
     let x = c .args .x in
     let x-in : x < m .count = omega (arith, c .if-x-count .left, c .count .ensures .marks) in
     let same : (p : ℕ) → held (new .records) p ≡ held (with-held (old .records) x false) p =
-        λ p. c .settle .ensures .marks p ∙ ap (λ rs. held rs p) (c .set-in .ensures .records) in
+    λ p. c .settle .ensures .marks p ∙ ap (λ rs. held rs p) (c .set-in .ensures .records) in
     let one = held-dropped (old .records) (new .records) x (omega (arith, L .limit, old .long)) (c .if-not-self-x .left) same in
     let new-ring = subst (λ s. Ring-of m s ring) (fun-ext (λ p. c .flags-flags .ensures .flags p ∙ sym (c .settle .ensures .marks p))) (c .outline-of-ring .ensures .ring) in
     let next = sound-dropped (old .records) (new .records) x (listed (old .ring)) ring (c .pre .sound) one new-ring (c .settle .ensures .links) in

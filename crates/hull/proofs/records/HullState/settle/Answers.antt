@@ -32,7 +32,7 @@ loop-i-again c =
     let hp : p < length rs = omega (arith, c .pre .recorded .small i h, c .loop-i .self .long) in
     let hq : q < length rs = omega (arith, small-next l (c .pre .recorded) i h, c .loop-i .self .long) in
     let e : c .link .last .self .records ≡ with-before (with-after rs p q) q p =
-        c .link .ensures .records ∙ (λ j. with-before (with-after rs (listed-at r i (c .loop-i-test .taken) j) (c .after .ensures .after j)) (c .after .ensures .after j) (listed-at r i (c .loop-i-test .taken) j)) in (
+    c .link .ensures .records ∙ (λ j. with-before (with-after rs (listed-at r i (c .loop-i-test .taken) j) (c .after .ensures .after j)) (c .after .ensures .after j) (listed-at r i (c .loop-i-test .taken) j)) in (
       c .link .ensures .ring ∙ c .loop-i .inv .0,
       λ k lt. subst (λ t. Link-at t l k) (sym e) (link-more rs l i (c .pre .recorded) h hp hq (c .loop-i .inv .1) k lt),
       λ k. subst (λ t. held t k ≡ held rs k) (sym e) (tied-held rs p q hp hq k) ∙ c .loop-i .inv .2 k,

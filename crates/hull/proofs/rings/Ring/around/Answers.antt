@@ -20,7 +20,7 @@ loop-i-holds g c =
     let e : r .len - 1 ≡ length l - 1 = ap (λ n. n - 1) (sym (listed-length r)) in
     let first = rotated-last l (r .len - 1) (omega (arith, listed-length r, c .pre .two)) (omega (arith, listed-length r, c .pre .two)) in
     let last : c .is-seen-last .result ≡ seen-by m x (getD l (length l - 1) 0) (getD l 0 0) =
-        c .is-seen-last .ensures .seen ∙ ap₂ (seen-by m x) (ap (λ i. getD l i 0) e) first in
+    c .is-seen-last .ensures .seen ∙ ap₂ (seen-by m x) (ap (λ i. getD l i 0) e) first in
     ap (λ k. k ++ grown (seen-by m x) x (c .is-seen-last .result) l (getD l 0 0)) (c .empty-new .ensures .none)
     ∙ ap (λ b. grown (seen-by m x) x b l (getD l 0 0)) last
 
@@ -37,8 +37,14 @@ put-requires g c κs =
     let all = ap length (sym (c .loop-i .inv) ∙ ap (λ k. listed (c .loop-i .new) ++ k) step) in
     record {
       room = subst (λ a. c .loop-i .new .len + length (left-on (c .loop-i .seen-to) s a x) ≤ 128) (sym (listed-at r i (c .loop-i-test .taken)))
-          (omega (arith, all, length-append (listed (c .loop-i .new)) (left-on (c .loop-i .seen-to) s (getD l i 0) x ++ rest), length-append (left-on (c .loop-i .seen-to) s (getD l i 0) x) rest, listed-length (c .loop-i .new),
-          whole-few (g .S·CcSystem .lawful (c .args .system .now)) x l (omega (arith, listed-length r, c .pre .two)) (c .pre .beside)));
+          (omega (
+            arith,
+            all,
+            length-append (listed (c .loop-i .new)) (left-on (c .loop-i .seen-to) s (getD l i 0) x ++ rest),
+            length-append (left-on (c .loop-i .seen-to) s (getD l i 0) x) rest,
+            listed-length (c .loop-i .new),
+            whole-few (g .S·CcSystem .lawful (c .args .system .now)) x l (omega (arith, listed-length r, c .pre .two)) (c .pre .beside),
+          ));
     }
 
 pub loop-i-again : need.loop-i-again
@@ -63,7 +69,7 @@ returns g c =
     let m = g .S·CcSystem .meaning (c .args .system .now) in
     let none = drop-of-length-le l {i = c .loop-i .i} (omega (arith, listed-length r, c .loop-i-test .left)) in
     let e : listed (c .loop-i .new) ≡ whole (seen-by m x) x l =
-        sym (append-nil (listed (c .loop-i .new))) ∙ ap (λ k. listed (c .loop-i .new) ++ grown (seen-by m x) x (c .loop-i .seen-to) k (getD l 0 0)) (sym none) ∙ c .loop-i .inv in
+    sym (append-nil (listed (c .loop-i .new))) ∙ ap (λ k. listed (c .loop-i .new) ++ grown (seen-by m x) x (c .loop-i .seen-to) k (getD l 0 0)) (sym none) ∙ c .loop-i .inv in
     record {
       around = λ s t marks ring one.
           subst (Outline m (of t)) (sym e)

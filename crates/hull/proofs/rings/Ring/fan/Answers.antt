@@ -39,7 +39,7 @@ lies-right-requires g c κs =
     let middle : ℕ = low + (high - low) / 2 in
     record {
       three = subst₂ (λ a b. Three (m .count) a b (c .args .x)) (sym (listed-at r 0 (omega arith))) (sym (listed-at r middle (omega arith)))
-          (three-from (g .S·CcSystem .lawful (c .args .system .now)) (listed r) (c .args .x) (c .pre .within) middle p (omega (arith, listed-length r)))
+          (three-from (g .S·CcSystem .lawful (c .args .system .now)) (listed r) (c .args .x) (c .pre .within) middle p (omega (arith, listed-length r)));
     }
 
 pub loop-low-again-then-lies-right : need.loop-low-again-then-lies-right
@@ -77,5 +77,5 @@ returns g c =
     let high = c .loop-low .high in
     record {
       fan = subst₂ (λ a b. Fan m (c .args .x) a b l) (sym (listed-at r low (omega arith))) (sym (listed-at r high (omega arith)))
-          (fan-at L l (c .args .x) (c .pre .within) low high pos (omega (arith, c .loop-low-test .left)) (omega (arith, listed-length r)) left right)
+          (fan-at L l (c .args .x) (c .pre .within) low high pos (omega (arith, c .loop-low-test .left)) (omega (arith, listed-length r)) left right);
     }

@@ -19,7 +19,7 @@ push-requires c κs =
     let r = c .args .self .now in
     let i = c .loop-i .i in
     record {
-      room = omega (arith, listed-length (c .loop-i .new), ap length (c .loop-i .inv), length-drop (c .lowest-start .result) (take i (listed r)), length-take i (listed r), c .loop-i-test .taken, r .few)
+      room = omega (arith, listed-length (c .loop-i .new), ap length (c .loop-i .inv), length-drop (c .lowest-start .result) (take i (listed r)), length-take i (listed r), c .loop-i-test .taken, r .few);
     }
 
 pub loop-i-again : need.loop-i-again
@@ -47,8 +47,18 @@ push-requires-in-loop-i-2 c κs =
     let i = c .loop-i-2 .i in
     let s = c .lowest-start .result in
     record {
-      room = omega (arith, listed-length (c .loop-i-2 .new), ap length (c .loop-i-2 .inv), length-append (drop s (listed r)) (take i (listed r)), length-drop s (listed r), length-take i (listed r), listed-length r,
-          c .loop-i-2-test .taken, c .lowest-start .ensures .within .0, r .few)
+      room = omega (
+        arith,
+        listed-length (c .loop-i-2 .new),
+        ap length (c .loop-i-2 .inv),
+        length-append (drop s (listed r)) (take i (listed r)),
+        length-drop s (listed r),
+        length-take i (listed r),
+        listed-length r,
+        c .loop-i-2-test .taken,
+        c .lowest-start .ensures .within .0,
+        r .few,
+      );
     }
 
 pub loop-i-2-again : need.loop-i-2-again

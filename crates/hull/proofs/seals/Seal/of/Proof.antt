@@ -97,8 +97,8 @@ module _ (Y : RattleType) (g : Ghosts (Y .Denot)) (d : Dict) {M : Type 1} (𝓤 
         sets ! (agg ! (no-more !)) refl (as-fields [] [] tt) $
         sets ! (agg ! (and-then ! (get ! refl) (no-more !))) refl (as-fields (lone (P.the-row (param 0 Y) .mir) ∷ []) (mark ∷ []) (as-fields [] [] tt, tt)) $
         returns ! (look-at ! 0 refl) $ free-all ! refl $ keep ! (0 ∷ 1 ∷ []) $
-        suffices ! _ (ends-at 𝓤 H A (ended Y g d) (stayed Y g d) held W (At (u ∷ []) (v ∷ [])) seal (record { marker = record { }; system = x; rows = rows-of (l .records); ring = listed (l .ring) }) (tt, (tt, tt)) (tt, (tt, tt))) $ says ! (refl, refl, refl) $
-        use0 W (‵ (R Y g d .own (record { marker = record { }; system = x; rows = rows-of (l .records); ring = listed (l .ring) }) (seal ∷ []))) (made Y g 𝓤 H A W x (rows-of (l .records)) (listed (l .ring)) (subst (λ rs. Sound (g .meaning x) rs (listed (l .ring))) (sym (of-rows-of (l .records))) h)) $
+        suffices ! _ (ends-at 𝓤 H A (ended Y g d) (stayed Y g d) held W (At (u ∷ []) (v ∷ [])) seal (record { marker = record {}; system = x; rows = rows-of (l .records); ring = listed (l .ring) }) (tt, (tt, tt)) (tt, (tt, tt))) $ says ! (refl, refl, refl) $
+        use0 W (‵ (R Y g d .own (record { marker = record {}; system = x; rows = rows-of (l .records); ring = listed (l .ring) }) (seal ∷ []))) (made Y g 𝓤 H A W x (rows-of (l .records)) (listed (l .ring)) (subst (λ rs. Sound (g .meaning x) rs (listed (l .ring))) (sym (of-rows-of (l .records))) h)) $
         move ! (1 ∷ 2 ∷ 0 ∷ []) $ frame ! $ frame ! $ done !))
 
     entry : (us vs : List Val) → (us ≡ u ∷ []) × (Unit {0} × Unit {0}) → (vs ≡ v ∷ []) × (Unit {0} × Unit {0}) → Goes us vs
