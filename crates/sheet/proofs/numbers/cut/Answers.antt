@@ -1,0 +1,7 @@
+use mathlib.Core.Path.{_≡_}
+use native.Mathlib.Omega.{arith}
+use Rattle.sheet.proofs.Fields.{cut-here}
+use Rattle.sheet.proofs.numbers.cut.Needs as need
+
+pub returns-then-b-mark : need.returns-then-b-mark
+returns-then-b-mark c = cut-here _ _ _ (c .loop-i-test .taken) (c .if-b-mark .taken) (c .loop-i .inv)

@@ -1,0 +1,110 @@
+//! The text format of the library's inputs, read exactly.
+//!
+//! A sheet tells a list of places, the crossings of a reflection network, or a table of turns (docs/SHEETS.md).
+//! What a sheet's text is stands in `specs/Sheets`; `read` gives back the one sheet that a text is, or says where the text stops being one.
+
+mod entries;
+mod lines;
+mod numbers;
+
+ghost use Rattle.std.specs.Results.{Cases as ByOk};
+ghost use mathlib.Core.Path.{_≡_};
+ghost use Rattle.sheet.specs.Forms.{Judged};
+ghost use Rattle.sheet.specs.Sheets.{Answers, Opens, Unopened, heads, limit, lists};
+use cc::Turn;
+use cc::faults::Fault;
+use entries::CrossingEntry;
+use entries::PlaceEntry;
+use entries::TurnEntry;
+use entries::fill;
+use lines::Line;
+use lines::formed;
+use models::places::Place;
+use numbers::cut;
+use numbers::number;
+
+// What a sheet tells: its letter is P, W or T.
+#[derive(Clone, Copy, PartialEq, Eq, Debug)]
+pub enum Kind {
+    Points,
+    Network,
+    Table,
+}
+
+// The greatest count that a sheet of the kind may have.
+fn most(kind: Kind) -> usize
+    ensures { λ r. ⌜ r ≡ limit kind ⌝ }
+{
+    match kind {
+        Kind::Points => 128,
+        Kind::Network => 32,
+        Kind::Table => 24,
+    }
+}
+
+// The kind and the count of a head, from its line without the byte 10.
+fn head(bytes: &[u8]) -> Result<(Kind, usize), Fault>
+    ensures { λ r. ⌜ Judged heads 0 1 (now (bytes .entry)) r ⌝ }
+{
+    let Some(line) = formed(bytes) else {
+        return Err(Fault::Torn(1));
+    };
+    let Line::Head { kind, count } = line else {
+        return Err(Fault::Torn(1));
+    };
+    let Some(n) = number(count) else {
+        return Err(Fault::Torn(1));
+    };
+    if n <= most(kind) {
+        Ok((kind, n))
+    } else {
+        Err(Fault::Outsize(1))
+    }
+}
+
+// The kind and the count of a text's head, and the lines after it.
+fn opening<'a>(text: &'a [u8]) -> Result<(Kind, usize, &'a [u8]), Fault>
+    ensures { λ r. ⌜ ByOk r (λ o. Opens (now (text .entry)) (o .0) (o .1) (now (o .2))) (λ e. Unopened (now (text .entry)) e) ⌝ }
+{
+    if text.len() > 32_768 {
+        return Err(Fault::Outsize(0));
+    }
+    let Some((bytes, rest)) = cut(text, b'\n') else {
+        return Err(Fault::Torn(1));
+    };
+    let (kind, n) = head(bytes)?;
+    Ok((kind, n, rest))
+}
+
+// Reads a sheet into the front of the list of its kind, and answers its kind and count; a refused text leaves the three lists as they are.
+pub fn read(
+    text: &[u8],
+    places: &mut [Place],
+    crossings: &mut [usize],
+    turns: &mut [Turn],
+) -> Result<(Kind, usize), Fault>
+    ensures answers { λ r. ⌜ Answers (now (text .entry)) (lists (now (places .entry)) (now (crossings .entry)) (now (turns .entry))) (lists (now (places .exit)) (now (crossings .exit)) (now (turns .exit))) r ⌝ }
+{
+    let (kind, n, rest) = opening(text)?;
+    match kind {
+        Kind::Points => {
+            let mut all = [Place { x: 0, y: 0 }; 128];
+            fill(rest, n, n, &mut all, places)?;
+        }
+        Kind::Network => {
+            let mut all = [0; 496];
+            fill(rest, n, n * n.saturating_sub(1) / 2, &mut all, crossings)?;
+        }
+        Kind::Table => {
+            let mut all = [Turn::Left; 2024];
+            fill(
+                rest,
+                n,
+                n * n.saturating_sub(1) * n.saturating_sub(2) / 6,
+                &mut all,
+                turns,
+            )?;
+        }
+    }
+    Ok((kind, n))
+}
