@@ -5,3 +5,6 @@ pub mod Forms
 pub mod Heads
 pub mod Turnings
 pub mod Readings
+pub mod Unique
+pub mod Exact
+pub mod Rising

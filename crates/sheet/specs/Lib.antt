@@ -3,3 +3,4 @@ pub mod Shapes
 pub mod Forms
 pub mod Triples
 pub mod Sheets
+pub mod Theorems

@@ -11,6 +11,7 @@ ghost use Rattle.std.specs.Results.{Cases as ByOk};
 ghost use mathlib.Core.Path.{_≡_};
 ghost use Rattle.sheet.specs.Forms.{Judged};
 ghost use Rattle.sheet.specs.Sheets.{Answers, Opens, Unopened, heads, limit, lists};
+ghost use Rattle.sheet.specs.Theorems.{All-triples, One-answer};
 use cc::Turn;
 use cc::faults::Fault;
 use entries::CrossingEntry;
@@ -107,4 +108,18 @@ pub fn read(
         }
     }
     Ok((kind, n))
+}
+
+// What `read` promises leaves one answer for each text and its lists: the theorem, with no code of its own.
+pub fn one_answer_stands() -> u8
+    ensures one { λ _. ⌜ One-answer ⌝ }
+{
+    0
+}
+
+// The triples of a table's lines are all triples of its marks, each once, in rising order: the theorem, with no code of its own.
+pub fn triples_stand() -> u8
+    ensures all { λ _. ⌜ All-triples ⌝ }
+{
+    0
 }

@@ -1,0 +1,5 @@
+use Rattle.sheet.proofs.Exact.{one-answer}
+use Rattle.sheet.proofs.one_answer_stands.Needs as need
+
+pub returns : need.returns
+returns c = record { one = one-answer }
