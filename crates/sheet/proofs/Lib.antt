@@ -8,3 +8,5 @@ pub mod Readings
 pub mod Unique
 pub mod Exact
 pub mod Rising
+pub mod Lengths
+pub mod Rounds

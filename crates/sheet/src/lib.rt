@@ -11,7 +11,7 @@ ghost use Rattle.std.specs.Results.{Cases as ByOk};
 ghost use mathlib.Core.Path.{_≡_};
 ghost use Rattle.sheet.specs.Forms.{Judged};
 ghost use Rattle.sheet.specs.Sheets.{Answers, Opens, Unopened, heads, limit, lists};
-ghost use Rattle.sheet.specs.Theorems.{All-triples, One-answer};
+ghost use Rattle.sheet.specs.Theorems.{All-triples, Every-table, One-answer, Round-trip, Short-enough};
 use cc::Turn;
 use cc::faults::Fault;
 use entries::CrossingEntry;
@@ -120,6 +120,15 @@ pub fn one_answer_stands() -> u8
 // The triples of a table's lines are all triples of its marks, each once, in rising order: the theorem, with no code of its own.
 pub fn triples_stand() -> u8
     ensures all { λ _. ⌜ All-triples ⌝ }
+{
+    0
+}
+
+// A sheet that is written is read back: the theorems, with no code of their own. No sheet in range is too long, and every table has one.
+pub fn round_trip_stands() -> u8
+    ensures back { λ _. ⌜ Round-trip ⌝ }
+    ensures short { λ _. ⌜ Short-enough ⌝ }
+    ensures tables { λ _. ⌜ Every-table ⌝ }
 {
     0
 }
