@@ -132,3 +132,30 @@ pub fn round_trip_stands() -> u8
 {
     0
 }
+
+#[cfg(test)]
+mod tests {
+    use super::*;
+    use cc::TurnDebug;
+    use cc::TurnPartialEq;
+    use cc::faults::FaultDebug;
+    use cc::faults::FaultPartialEq;
+    use std::test::*;
+
+    #[test]
+    fn a_table_is_read() -> Result<(), Fail> {
+        let mut turns = [Turn::Left; 2];
+        let answer = read(b"T\t3\nt\t0\t1\t2\tR\n", &mut [], &mut [], &mut turns)?;
+        check_eq(answer, (Kind::Table, 3))?;
+        check_eq(turns[0], Turn::Right)?;
+        check_eq(turns[1], Turn::Left)
+    }
+
+    #[test]
+    fn a_refusal_writes_nothing() -> Result<(), Fail> {
+        let mut crossings = [7, 7, 7];
+        let answer = read(b"W\t3\nc\t0\nc\t1\nc\t2\n", &mut [], &mut crossings, &mut []);
+        check_eq(answer, Err(Fault::Outsize(4)))?;
+        check_eq(crossings, [7, 7, 7])
+    }
+}
