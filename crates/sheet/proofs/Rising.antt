@@ -136,10 +136,13 @@ before-on t u v p q =
     (λ lt. inl (⊎-elim (λ lt′. omega arith) (λ e. omega (arith, e .0)) q))
     (λ e. ⊎-elim
     (λ lt. inl (omega (arith, e .0)))
-    (λ e′. inr (e .0 ∙ e′ .0, ⊎-elim
-    (λ lt. inl (⊎-elim (λ lt′. omega arith) (λ f. omega (arith, f .0)) (e′ .1)))
-    (λ f. ⊎-elim (λ lt. inl (omega (arith, f .0))) (λ f′. inr (f .0 ∙ f′ .0, omega (arith, f .1, f′ .1))) (e′ .1))
-    (e .1)))
+    (λ e′. inr (
+      e .0 ∙ e′ .0,
+      ⊎-elim
+          (λ lt. inl (⊎-elim (λ lt′. omega arith) (λ f. omega (arith, f .0)) (e′ .1)))
+          (λ f. ⊎-elim (λ lt. inl (omega (arith, f .0))) (λ f′. inr (f .0 ∙ f′ .0, omega (arith, f .1, f′ .1))) (e′ .1))
+          (e .1),
+    ))
     q)
     p
 

@@ -173,25 +173,31 @@ pub(crate) impl Entry for Turn as TurnEntry {
 }
 
 // The bytes of the line with this number, which is due, and what follows its byte 10.
-fn next_line(rest: &[u8], line: usize) -> Result<(&[u8], &[u8]), Fault>
-    ensures { λ r. ⌜ ByOk r (λ p. Lacks 10 (now (p .0)) × (now (rest .entry) ≡ now (p .0) ++ 10 ∷ now (p .1))) (λ e. Missed (now (rest .entry)) line e) ⌝ }
+fn next_line(rest: &[u8], number: usize) -> Result<(&[u8], &[u8]), Fault>
+    ensures { λ r. ⌜ ByOk r (λ p. Lacks 10 (now (p .0)) × (now (rest .entry) ≡ now (p .0) ++ 10 ∷ now (p .1))) (λ e. Missed (now (rest .entry)) number e) ⌝ }
 {
     if rest.is_empty() {
-        return Err(Fault::Miscounted(line));
+        return Err(Fault::Miscounted(number));
     }
     match cut(rest, b'\n') {
         Some(parts) => Ok(parts),
-        None => Err(Fault::Torn(line)),
+        None => Err(Fault::Torn(number)),
+    }
+}
+
+// The text ends where the line with this number would begin.
+fn at_end(rest: &[u8], line: usize) -> Result<(), Fault>
+    ensures { λ r. ⌜ ByOk r (λ _. length (now (rest .entry)) ≡ 0) (λ e. (0 < length (now (rest .entry))) × (e ≡ Fault.Miscounted line)) ⌝ }
+{
+    if rest.is_empty() {
+        Ok(())
+    } else {
+        Err(Fault::Miscounted(line))
     }
 }
 
 // Reads so many lines into the front of the list, and nothing may follow them.
-fn read_lines<E: Entry>(
-    text: &[u8],
-    count: usize,
-    due: usize,
-    list: &mut [E],
-) -> Result<(), Fault>
+fn read_lines<E: Entry>(text: &[u8], count: usize, due: usize, list: &mut [E]) -> Result<(), Fault>
     requires { ⌜ due ≤ length (now list) ⌝ ∗ ⌜ due < 4096 ⌝ }
     ensures { λ r. ⌜ ByOk r (λ _. Upto (E·Entry .form count) (now (text .entry)) (take due (now (list .exit))) []) (λ e. Stops (E·Entry .form count) due (now (text .entry)) e) ⌝ }
 {
@@ -203,11 +209,7 @@ fn read_lines<E: Entry>(
         rest = after;
         triple = following(count, triple);
     }
-    if rest.is_empty() {
-        Ok(())
-    } else {
-        Err(Fault::Miscounted(due + 2))
-    }
+    at_end(rest, due + 2)
 }
 
 // Reads so many lines, by way of `all`, into the front of the caller's list, or leaves the list as it is.

@@ -7,6 +7,9 @@ mod entries;
 mod lines;
 mod numbers;
 
+ghost use Prim.Native.Nat.{_<_, _≤_};
+ghost use lib.ListN.{length};
+ghost use Rattle.std.specs.Orderings.{When};
 ghost use Rattle.std.specs.Results.{Cases as ByOk};
 ghost use mathlib.Core.Path.{_≡_};
 ghost use Rattle.sheet.specs.Forms.{Judged};
@@ -63,11 +66,18 @@ fn head(bytes: &[u8]) -> Result<(Kind, usize), Fault>
     }
 }
 
+// Whether the text is no longer than a sheet may be.
+fn is_short(text: &[u8]) -> bool
+    ensures { λ r. ⌜ When r (length (now (text .entry)) ≤ 32768) (32768 < length (now (text .entry))) ⌝ }
+{
+    text.len() <= 32_768
+}
+
 // The kind and the count of a text's head, and the lines after it.
 fn opening<'a>(text: &'a [u8]) -> Result<(Kind, usize, &'a [u8]), Fault>
     ensures { λ r. ⌜ ByOk r (λ o. Opens (now (text .entry)) (o .0) (o .1) (now (o .2))) (λ e. Unopened (now (text .entry)) e) ⌝ }
 {
-    if text.len() > 32_768 {
+    if !is_short(text) {
         return Err(Fault::Outsize(0));
     }
     let Some((bytes, rest)) = cut(text, b'\n') else {
@@ -154,7 +164,12 @@ mod tests {
     #[test]
     fn a_refusal_writes_nothing() -> Result<(), Fail> {
         let mut crossings = [7, 7, 7];
-        let answer = read(b"W\t3\nc\t0\nc\t1\nc\t2\n", &mut [], &mut crossings, &mut []);
+        let answer = read(
+            b"W\t3\nc\t0\nc\t1\nc\t2\n",
+            &mut [],
+            &mut crossings,
+            &mut [],
+        );
         check_eq(answer, Err(Fault::Outsize(4)))?;
         check_eq(crossings, [7, 7, 7])
     }

@@ -1,9 +1,11 @@
 //! A line and its fields.
 
 ghost use mathlib.Core.List.{_∷_};
-ghost use Rattle.std.specs.Options.{mapped};
+ghost use mathlib.Core.Logic.{_≢_};
+ghost use mathlib.Core.Path.{_≡_};
+ghost use Rattle.std.specs.Options.{Cases, mapped};
 ghost use Rattle.sheet.specs.Fields.{Says};
-ghost use Rattle.sheet.specs.Shapes.{Parted, shape, spelled};
+ghost use Rattle.sheet.specs.Shapes.{Parted, shape, side, spelled};
 use super::Kind;
 use super::numbers::cut;
 use cc::Turn;
@@ -30,6 +32,17 @@ pub(crate) enum Line<'a> {
     },
 }
 
+// The turn that L or R tells.
+fn turn_of(letter: u8) -> Option<Turn>
+    ensures { λ r. ⌜ Cases r ((letter ≢ 76) × (letter ≢ 82)) (λ turn. letter ≡ side turn) ⌝ }
+{
+    match char::from(letter) {
+        'L' => Some(Turn::Left),
+        'R' => Some(Turn::Right),
+        _ => None,
+    }
+}
+
 // The fields of a turn's line, after its letter and the tab.
 fn turning_fields<'a>(fields: &'a [u8]) -> Option<Line<'a>>
     ensures { λ r. ⌜ Says Parted spelled (116 ∷ 9 ∷ now (fields .entry)) (mapped shape r) ⌝ }
@@ -37,22 +50,9 @@ fn turning_fields<'a>(fields: &'a [u8]) -> Option<Line<'a>>
     let (i, after_i) = cut(fields, b'\t')?;
     let (j, after_j) = cut(after_i, b'\t')?;
     let (k, last) = cut(after_j, b'\t')?;
-    let [side] = last else { return None };
-    match char::from(*side) {
-        'L' => Some(Line::Turning {
-            i,
-            j,
-            k,
-            turn: Turn::Left,
-        }),
-        'R' => Some(Line::Turning {
-            i,
-            j,
-            k,
-            turn: Turn::Right,
-        }),
-        _ => None,
-    }
+    let [letter] = last else { return None };
+    let turn = turn_of(*letter)?;
+    Some(Line::Turning { i, j, k, turn })
 }
 
 // The line that the bytes are, without the byte 10 at its end; none where they have no line's form.

@@ -2,7 +2,8 @@
 
 ghost use mathlib.Core.List.{_∷_, _++_};
 ghost use mathlib.Core.Path.{_≡_};
-ghost use Prim.Native.Nat.{_≤_};
+ghost use Prim.Native.Nat.{_≤_, _<_};
+ghost use lib.IntN.{pos, negℤ};
 ghost use lib.ListN.{length};
 ghost use Rattle.std.specs.Options.{Cases};
 ghost use Rattle.std.specs.Orderings.{When};
@@ -34,6 +35,13 @@ fn digits(bytes: &[u8]) -> Option<usize>
     Some(n)
 }
 
+// Whether the digits that begin so have a needless zero in front.
+fn needless_zero(first: u8, rest: &[u8]) -> bool
+    ensures { λ r. ⌜ When r ((first ≡ 48) × (0 < length (now (rest .entry)))) (first ≡ 48 → length (now (rest .entry)) ≡ 0) ⌝ }
+{
+    char::from(first) == '0' && !rest.is_empty()
+}
+
 // A count, a crossing or a mark: one to six digits, without a needless zero in front.
 pub(crate) fn number(bytes: &[u8]) -> Option<usize>
     ensures { λ r. ⌜ Says Six decimal (now (bytes .entry)) r ⌝ }
@@ -44,10 +52,21 @@ pub(crate) fn number(bytes: &[u8]) -> Option<usize>
     if rest.len() > 5 {
         return None;
     }
-    if char::from(*first) == '0' && !rest.is_empty() {
+    if needless_zero(*first, rest) {
         return None;
     }
     digits(bytes)
+}
+
+// The number below 0, or none for 0.
+fn negated(n: usize) -> Option<i32>
+    requires { ⌜ Six n ⌝ }
+    ensures { λ r. ⌜ Cases r (n ≡ 0) (λ z. (0 < n) × (z ≡ negℤ (pos n))) ⌝ }
+{
+    match n {
+        0 => None,
+        n => Some(-(n as i32)),
+    }
 }
 
 // A coordinate: a number, or a minus and a number above 0.
@@ -56,10 +75,7 @@ pub(crate) fn coordinate(bytes: &[u8]) -> Option<i32>
 {
     if let [first, rest @ ..] = bytes {
         if char::from(*first) == '-' {
-            return match number(rest)? {
-                0 => None,
-                n => Some(-(n as i32)),
-            };
+            return negated(number(rest)?);
         }
     }
     Some(number(bytes)? as i32)

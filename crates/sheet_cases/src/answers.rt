@@ -32,7 +32,9 @@ fn network_told(heap: Global, n: usize, crossings: &[usize]) -> Result<String, A
 fn table_told(heap: Global, n: usize, turns: &[Turn]) -> Result<String, AnyError> {
     let mut told = String::new(heap);
     write!(told, "T {n}")?;
-    let triples = n.saturating_mul(n.saturating_sub(1)).saturating_mul(n.saturating_sub(2)) / 6;
+    let triples = n.saturating_mul(n.saturating_sub(1))
+        .saturating_mul(n.saturating_sub(2))
+        / 6;
     for turn in turns.iter().take(triples) {
         match turn {
             Turn::Left => told.push_str(" L")?,

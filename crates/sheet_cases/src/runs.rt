@@ -41,12 +41,14 @@ fn compare(
 fn decoded(heap: Global, sheet: &str) -> Result<Vec<u8>, AnyError> {
     let mut text = Vec::new(heap);
     for b in sheet.bytes() {
-        text.push(match char::from(b) {
-            '>' => b'\t',
-            '/' => b'\n',
-            '~' => b'\r',
-            _ => b,
-        })?;
+        text.push(
+            match char::from(b) {
+                '>' => b'\t',
+                '/' => b'\n',
+                '~' => b'\r',
+                _ => b,
+            },
+        )?;
     }
     Ok(text)
 }

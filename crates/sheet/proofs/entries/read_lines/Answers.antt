@@ -2,10 +2,10 @@ use mathlib.Core.Path.{_≡_, sym, ap, subst, _∙_}
 use Prim.Native.Nat.{_+_}
 use native.Mathlib.Numerals.{add-one}
 use native.Mathlib.Omega.{arith}
-use borrow.Author.Tests.{true-eqb, false-eqb}
 use lib.ListN.{length}
 use Rattle.std.proofs.shelf.Lists.{length-take-le, nil-from-length}
-use Rattle.std.proofs.shelf.Results.{err-from-errBy}
+use Rattle.std.proofs.shelf.Results.{cases-weaker, err-from-errBy}
+use Rattle.sheet.specs.Forms.{Stops}
 use Rattle.sheet.specs.Triples.{after, triple-at}
 use Rattle.sheet.proofs.Forms.{stop-missed, stop-judged, stop-surplus, upto-set, upto-all}
 use Rattle.sheet.proofs.Turnings.{Rises, triple-rises}
@@ -27,16 +27,15 @@ following-triple-requires g c κs =
     (omega arith, (omega arith, omega arith))
 
 pub loop-at-again : need.loop-at-again
-loop-at-again g c =
-    (
-      upto-set _ _ (c .loop-at .list) (c .loop-at .at) _ _ _ _ (omega arith) (c .loop-at .inv .0) (c .in-Continue-list .ensures tt) (c .in-Continue-bytes .ensures tt .1),
-      c .following-triple .ensures ∙ ap (after (c .args .count)) (c .loop-at .inv .1) ∙ ap (triple-at (c .args .count)) (sym (add-one (c .loop-at .at)))
-    )
+loop-at-again g c = (
+  upto-set _ _ (c .loop-at .list) (c .loop-at .at) _ _ _ _ (omega arith) (c .loop-at .inv .0) (c .in-Continue-list .ensures tt) (c .in-Continue-bytes .ensures tt .1),
+  c .following-triple .ensures ∙ ap (after (c .args .count)) (c .loop-at .inv .1) ∙ ap (triple-at (c .args .count)) (sym (add-one (c .loop-at .at))),
+)
 
-pub returns-then-is-empty : need.returns-then-is-empty
-returns-then-is-empty g c =
-    upto-all _ _ _ (c .loop-at .at) (c .args .due) _ (omega arith) (nil-from-length _ (true-eqb _ 0 (c .if-is-empty .ensures tt))) (c .loop-at .inv .0)
-
-pub returns-else-is-empty : need.returns-else-is-empty
-returns-else-is-empty g c =
-    stop-surplus _ _ _ _ _ (c .loop-at .inv .0) (c .loop-at .at) (length-take-le _ _ (omega arith)) (omega arith) (λ e. false-eqb _ 0 (c .if-is-empty .ensures tt) (ap length e))
+pub returns : need.returns
+returns g c =
+    cases-weaker (c .at-end .result) (c .at-end .ensures)
+    (λ _ none. upto-all _ _ _ (c .loop-at .at) (c .args .due) _ (omega arith) (nil-from-length _ none) (c .loop-at .inv .0))
+    (λ e more.
+    subst (Stops (g .E·Entry .form (c .args .count)) (c .args .due) (c .args .text .now)) (sym (more .1))
+    (stop-surplus _ _ _ _ _ (c .loop-at .inv .0) (c .loop-at .at) (length-take-le _ _ (omega arith)) (omega arith) (λ nil. omega (arith, more .0, ap length nil))))

@@ -1,4 +1,4 @@
-use mathlib.Core.Path.{_≡_, sym, ap, _∙_}
+use mathlib.Core.Path.{_≡_, refl, sym, ap, _∙_}
 use mathlib.Core.List.{[], _∷_}
 use Prim.Native.Nat.{_≤_, _<_}
 use native.Mathlib.Omega.{arith}
@@ -34,14 +34,12 @@ returns-in-rest c =
       | in-rest·by·else-last-lt1·else-last-lt2 w ↦ omega (arith, ltb-false, ap length e)
     ])
 
-pub returns-in-L : need.returns-in-L
-returns-in-L c =
-    sided (cuts (need.at·returns-in-L c .In-Continue-k)) Left (single _ 76 (omega (arith, ltb-true, ltb-false)) (sym (c .from .ensures) ∙ c .in-L .is))
+pub returns : need.returns
+returns c =
+    sided (cuts (need.at·returns c .In-Continue-k)) (c .in-Continue-turn .turn) (single _ _ (omega (arith, ltb-true, ltb-false)) (c .in-Continue-turn .ensures tt))
 
-pub returns-in-R : need.returns-in-R
-returns-in-R c =
-    sided (cuts (need.at·returns-in-R c .In-Continue-k)) Right (single _ 82 (omega (arith, ltb-true, ltb-false)) (sym (c .from .ensures) ∙ c .in-R .is))
-
-pub returns-in-rest-from : need.returns-in-rest-from
-returns-in-rest-from c =
-    no-side (cuts (need.at·returns-in-rest-from c .In-Continue-k)) (no-letter _ _ (c .from .ensures) (omega (arith, eqb-apart)) (omega (arith, eqb-apart)))
+pub returns-in-Break-turn : need.returns-in-Break-turn
+returns-in-Break-turn c =
+    let told = c .in-Break-turn .ensures tt in
+    rw (c .from-residual-in-Break-turn .ensures)
+    (no-side (cuts (need.at·returns-in-Break-turn c .In-Continue-k)) (no-letter _ _ refl (told .0) (told .1)))
