@@ -24,7 +24,7 @@ use Rattle.sheet.specs.declared.Kind.the-variants.{Points, Network, Table}
 use Rattle.sheet.specs.declared.entries.Triple.{Triple}
 use Rattle.sheet.proofs.Cuts.{cut-unique}
 use Rattle.sheet.proofs.Fields.{decimal-lacks, signed-lacks}
-use Rattle.sheet.proofs.Heads.{head-whole}
+use Rattle.sheet.proofs.Heads.{count-six, head-whole}
 use Rattle.sheet.proofs.Marks.{mark-whole, same-mark}
 use Rattle.sheet.proofs.Turnings.{crossing-whole, turn-whole}
 use Rattle.sheet.proofs.Unique.{Plain, agree, not-both, one-stop, same-line}
@@ -41,7 +41,7 @@ same-letter Table Points e = absurd (omega arith)
 same-letter Table Network e = absurd (omega arith)
 same-letter Table Table e = refl
 
-plain-heads : Plain heads
+pub plain-heads : Plain heads
 plain-heads =
     record {
       whole = λ i v w. head-whole v w;
@@ -94,27 +94,22 @@ plain-turns : (n : ℕ) → Plain (turns n)
 plain-turns n =
     record { whole = λ i v w. turn-whole (triple-at n i) v w; one = λ i u v wu wv e. same-turns (triple-at n i) u v wu e }
 
-plain : (k : Kind) (n : ℕ) → Plain (form k n)
+pub plain : (k : Kind) (n : ℕ) → Plain (form k n)
 plain Points n = plain-marks
 plain Network n = plain-crossings n
 plain Table n = plain-turns n
 
 -- a text opens in one way
-limit-six : (k : Kind) (n : ℕ) → n ≤ limit k → Six n
-limit-six Points n h = omega arith
-limit-six Network n h = omega arith
-limit-six Table n h = omega arith
-
 module _ (text : List ℕ) where
-  one-opening : (k : Kind) (n : ℕ) (rest : List ℕ) (l : Kind) (m : ℕ) (more : List ℕ) → Opens text k n rest → Opens text l m more → (_≡_ {A = Kind × ℕ} (k, n) (l, m)) × (rest ≡ more)
+  pub one-opening : (k : Kind) (n : ℕ) (rest : List ℕ) (l : Kind) (m : ℕ) (more : List ℕ) → Opens text k n rest → Opens text l m more → (_≡_ {A = Kind × ℕ} (k, n) (l, m)) × (rest ≡ more)
   one-opening k n rest l m more o p =
-      same-line heads plain-heads 0 (k, n) (l, m) rest more (limit-six k n (o .limited)) (limit-six l m (p .limited)) (sym (o .is) ∙ p .is)
+      same-line heads plain-heads 0 (k, n) (l, m) rest more (count-six k n (o .limited)) (count-six l m (p .limited)) (sym (o .is) ∙ p .is)
 
-  not-opened : (k : Kind) (n : ℕ) (rest : List ℕ) → Opens text k n rest → (fault : Fault) → Unopened text fault → ⊥
+  pub not-opened : (k : Kind) (n : ℕ) (rest : List ℕ) → Opens text k n rest → (fault : Fault) → Unopened text fault → ⊥
   not-opened k n rest o fault (long h) = omega (arith, o .short)
-  not-opened k n rest o fault (headless s none) = none (k, n) rest (limit-six k n (o .limited)) (o .is)
+  not-opened k n rest o fault (headless s none) = none (k, n) rest (count-six k n (o .limited)) (o .is)
   not-opened k n rest o fault (overcount s v more w unfit e) =
-      unfit (subst (heads .Fits) (same-line heads plain-heads 0 (k, n) v rest more (limit-six k n (o .limited)) w (sym (o .is) ∙ e) .0) (o .limited))
+      unfit (subst (heads .Fits) (same-line heads plain-heads 0 (k, n) v rest more (count-six k n (o .limited)) w (sym (o .is) ∙ e) .0) (o .limited))
 
   one-unopened : (a b : Fault) → Unopened text a → Unopened text b → a ≡ b
   one-unopened a b (long h) (long h′) = refl
@@ -128,14 +123,14 @@ module _ (text : List ℕ) where
   one-unopened a b (overcount s v r w unfit e) (overcount s′ v′ r′ w′ unfit′ e′) = refl
 
   -- a sheet's text opens, and all of the rest is read
-  opens : (k : Kind) (n : ℕ) (vs : List (Value k)) → Holds text k n vs → Opens text k n (lines (form k n) 0 vs)
+  pub opens : (k : Kind) (n : ℕ) (vs : List (Value k)) → Holds text k n vs → Opens text k n (lines (form k n) 0 vs)
   opens k n vs h = record { short = h .short; limited = h .sheet .limited; is = h .is }
 
   upto : (k : Kind) (n : ℕ) (vs : List (Value k)) → Holds text k n vs → Upto (form k n) (lines (form k n) 0 vs) vs []
   upto k n vs h = record { fine = h .sheet .fine; read = sym (append-nil _) }
 
   -- what holds of the kind and the count of one opening holds of those of another
-  moved : (P : Kind → ℕ → Type 0) (k : Kind) (n : ℕ) (rest : List ℕ) (l : Kind) (m : ℕ) (more : List ℕ) → Opens text k n rest → Opens text l m more → P k n → P l m
+  pub moved : (P : Kind → ℕ → Type 0) (k : Kind) (n : ℕ) (rest : List ℕ) (l : Kind) (m : ℕ) (more : List ℕ) → Opens text k n rest → Opens text l m more → P k n → P l m
   moved P k n rest l m more o p h = subst (λ v. P (v .0) (v .1)) (one-opening k n rest l m more o p .0) h
 
   one-values : (k : Kind) (n : ℕ) (vs ws : List (Value k)) → Holds text k n vs → Holds text k n ws → vs ≡ ws
@@ -144,7 +139,7 @@ module _ (text : List ℕ) where
       agree (form k n) (plain k n) _ vs ws [] [] (subst (λ r. Upto (form k n) r vs []) rest (upto k n vs h)) (upto k n ws g) (h .sheet .many ∙ sym (g .sheet .many)) .0
 
   -- a text that is a sheet's does not stop
-  sheet-goes : (k : Kind) (n : ℕ) (vs : List (Value k)) → Holds text k n vs → (l : Kind) (m : ℕ) (rest : List ℕ) → Opens text l m rest → (fault : Fault) → Stops (form l m) (due l m) rest fault → ⊥
+  pub sheet-goes : (k : Kind) (n : ℕ) (vs : List (Value k)) → Holds text k n vs → (l : Kind) (m : ℕ) (rest : List ℕ) → Opens text l m rest → (fault : Fault) → Stops (form l m) (due l m) rest fault → ⊥
   sheet-goes k n vs h l m rest o fault stops =
       let here = opens k n vs h in
       let back = moved (λ k n. Stops (form k n) (due k n) rest fault) l m rest k n _ o here stops in

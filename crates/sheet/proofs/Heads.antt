@@ -11,7 +11,7 @@ use Rattle.cc.specs.declared.faults.Fault.the-variants.{Torn}
 use Rattle.sheet.specs.Fields.{Six, Lacks}
 use Rattle.sheet.specs.Forms.{Flawed, formless, beyond}
 use Rattle.sheet.specs.Shapes.{letter, spelled, head}
-use Rattle.sheet.specs.Sheets.{heads, Unopened, headless, overcount}
+use Rattle.sheet.specs.Sheets.{heads, limit, Unopened, headless, overcount}
 use Rattle.sheet.specs.declared.Kind.{Kind}
 use Rattle.sheet.specs.declared.Kind.the-variants.{Points, Network, Table}
 use Rattle.sheet.proofs.Cuts.{cut-none, cut-unique, lacks-cons}
@@ -26,6 +26,12 @@ pub head-whole : (v : Kind × ℕ) → Six (v .1) → Lacks 10 (heads .line 0 v)
 head-whole v six =
     let count = decimal (v .1) in
     lacks-cons 10 (letter (v .0)) (9 ∷ count) (letter-whole (v .0)) (lacks-cons 10 9 count (omega arith) (decimal-lacks 10 (v .1) (omega arith) six))
+
+-- a count in range has at most six digits
+pub count-six : (k : Kind) (n : ℕ) → n ≤ limit k → Six n
+count-six Points n h = omega arith
+count-six Network n h = omega arith
+count-six Table n h = omega arith
 
 pub no-head : (text : List ℕ) → length text ≤ 32768 → Lacks 10 text → Unopened text (Torn 1)
 no-head text short l = headless short (λ v rest w e. cut-none text (heads .line 0 v) rest l e)

@@ -18,6 +18,7 @@ use Rattle.sheet.specs.Triples.{triple-at}
 use Rattle.sheet.specs.declared.Kind.{Kind}
 use Rattle.sheet.specs.declared.Kind.the-variants.{Points, Network, Table}
 use Rattle.sheet.specs.declared.entries.Triple.{Triple}
+use Rattle.sheet.proofs.Heads.{count-six}
 use Rattle.sheet.proofs.Rising.{all-triples}
 use Rattle.sheet.proofs.Turnings.{pairs-few, triples-few}
 
@@ -75,17 +76,12 @@ body-short Table n vs s =
         let k = u .2 in
         turn-short (triple-at n at) turn (omega arith) (omega arith) (omega arith)
 
-count-six : (k : Kind) (n : ℕ) → n ≤ limit k → Six n
-count-six Points n h = omega arith
-count-six Network n h = omega arith
-count-six Table n h = omega arith
-
 pub short-enough : Short-enough
 short-enough k n vs s =
     omega (arith, body-short k n vs s, number-short n (count-six k n (s .limited)), length-append (heads .line 0 (k, n)) (10 ∷ lines (form k n) 0 vs))
 
 -- a triple of the marks below 24 is written with few digits
-fine-turns : (n i : ℕ) (ts : List Turn) → n ≤ 24 → i + length ts ≤ due Table n → Fine (turns n) i ts
+pub fine-turns : (n i : ℕ) (ts : List Turn) → n ≤ 24 → i + length ts ≤ due Table n → Fine (turns n) i ts
 fine-turns n i [] few h = tt
 fine-turns n i (t ∷ ts) few h =
     let u = marks-under n i few (omega arith) in

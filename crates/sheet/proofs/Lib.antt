@@ -10,3 +10,4 @@ pub mod Exact
 pub mod Rising
 pub mod Lengths
 pub mod Rounds
+pub mod Firsts

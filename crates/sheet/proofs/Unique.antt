@@ -24,7 +24,7 @@ module _ {V : Type 0} (f : Form V) (plain : Plain f) where
       (plain .one i u v wu wv (cut .0), cut .1)
 
   -- of two runs of lines at the front of a text, the longer begins with the shorter
-  prefix : (i : ℕ) (vs ws : List V) (r s : List ℕ) → Fine f i vs → Fine f i ws → length vs ≤ length ws → lines f i vs ++ r ≡ lines f i ws ++ s → (us : List V) × (ws ≡ vs ++ us) × Fine f (i + length vs) us × (r ≡ lines f (i + length vs) us ++ s)
+  pub prefix : (i : ℕ) (vs ws : List V) (r s : List ℕ) → Fine f i vs → Fine f i ws → length vs ≤ length ws → lines f i vs ++ r ≡ lines f i ws ++ s → (us : List V) × (ws ≡ vs ++ us) × Fine f (i + length vs) us × (r ≡ lines f (i + length vs) us ++ s)
   prefix i [] ws r s fv fw h e =
       (ws, refl, subst (λ k. Fine f k ws) (sym (add-zero i)) fw, e ∙ ap (λ k. lines f k ws ++ s) (sym (add-zero i)))
   prefix i (v ∷ vs) [] r s fv fw h e = absurd (omega arith)
@@ -36,7 +36,7 @@ module _ {V : Type 0} (f : Form V) (plain : Plain f) where
       (rest .0, (λ j. sym (first .0) j ∷ rest .1 j), subst (λ m. Fine f m (rest .0)) k (rest .2), rest .3 ∙ ap (λ m. lines f m (rest .0) ++ s) k)
 
   -- where a fine line is due and there, nothing is wrong
-  unstuck : (n i : ℕ) (rest : List ℕ) (fault : Fault) (u : V) (after : List ℕ) → i < n → f .Written i u → f .Fits u → rest ≡ f .line i u ++ 10 ∷ after → Wrong f n i rest fault → ⊥
+  pub unstuck : (n i : ℕ) (rest : List ℕ) (fault : Fault) (u : V) (after : List ℕ) → i < n → f .Written i u → f .Fits u → rest ≡ f .line i u ++ 10 ∷ after → Wrong f n i rest fault → ⊥
   unstuck n i rest fault u after h w fits e (missing lt none) = not-nil 10 (f .line i u) after (sym e ∙ none)
   unstuck n i rest fault u after h w fits e (surplus many some) = omega arith
   unstuck n i rest fault u after h w fits e (torn lt some none) = none u after w e
@@ -44,7 +44,7 @@ module _ {V : Type 0} (f : Form V) (plain : Plain f) where
       unfit (subst (f .Fits) (same-line i u v after more w w′ (sym e ∙ e′) .0) fits)
 
   -- a reading goes no further than the lines due
-  within : (n i : ℕ) (rest : List ℕ) (fault : Fault) → Wrong f n i rest fault → i ≤ n
+  pub within : (n i : ℕ) (rest : List ℕ) (fault : Fault) → Wrong f n i rest fault → i ≤ n
   within n i rest fault (missing lt none) = omega arith
   within n i rest fault (surplus many some) = omega arith
   within n i rest fault (torn lt some none) = omega arith

@@ -14,7 +14,7 @@ ghost use Rattle.std.specs.Results.{Cases as ByOk};
 ghost use mathlib.Core.Path.{_≡_};
 ghost use Rattle.sheet.specs.Forms.{Judged};
 ghost use Rattle.sheet.specs.Sheets.{Answers, Opens, Unopened, heads, limit, lists};
-ghost use Rattle.sheet.specs.Theorems.{All-triples, Every-table, One-answer, Round-trip, Short-enough};
+ghost use Rattle.sheet.specs.Theorems.{All-triples, Every-table, First-line, One-answer, Round-trip, Short-enough};
 use cc::Turn;
 use cc::faults::Fault;
 use entries::CrossingEntry;
@@ -120,9 +120,11 @@ pub fn read(
     Ok((kind, n))
 }
 
-// What `read` promises leaves one answer for each text and its lists: the theorem, with no code of its own.
+// What `read` promises leaves one answer for each text and its lists, and the line of a refusal is the first at which the text stops being the
+// beginning of a sheet: the theorems, with no code of their own.
 pub fn one_answer_stands() -> u8
     ensures one { λ _. ⌜ One-answer ⌝ }
+    ensures line { λ _. ⌜ First-line ⌝ }
 {
     0
 }
