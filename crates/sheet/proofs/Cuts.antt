@@ -2,12 +2,12 @@
 use mathlib.Core.Path.{_≡_, refl, sym, ap, subst, _∙_}
 use mathlib.Core.Logic.{_≢_}
 use mathlib.Core.List.{List, [], _∷_, _++_}
-use Prim.Native.Nat.{ℕ, zero, suc, _-_, _<_, _≤_}
+use Prim.Native.Nat.{ℕ, zero, suc, _-_, _≤_}
 use native.Mathlib.Omega.{arith}
 use lib.ListN.{length, getD, take, drop}
 use Rattle.std.proofs.shelf.Lists.{take-all}
 use Rattle.sheet.specs.Fields.{Lacks}
-use Rattle.sheet.specs.Shapes.{Shape, head, mark, crossing, turning, initial, fields, spelled, Parted, side}
+use Rattle.sheet.specs.Shapes.{Shape, head, mark, crossing, turning, fields, spelled, Parted, side}
 use Rattle.sheet.specs.declared.Kind.the-variants.{Points, Network, Table}
 use Rattle.cc.specs.declared.Turn.{Turn}
 use Rattle.cc.specs.declared.Turn.the-variants.{Left, Right}

@@ -13,10 +13,10 @@ use Rattle.cc.specs.declared.Turn.{Turn}
 use Rattle.cc.specs.declared.Turn.the-variants.{Left, Right}
 use Rattle.cc.specs.declared.faults.Fault.{Fault}
 use Rattle.cc.specs.declared.faults.Fault.the-variants.{Tight}
-use Rattle.sheet.specs.Fields.{Six, SixSigned}
+use Rattle.sheet.specs.Fields.{SixSigned}
 use Rattle.sheet.specs.Forms.{Stops, Upto, lines}
 use Rattle.sheet.specs.Shapes.{letter, side}
-use Rattle.sheet.specs.Sheets.{Declines, Holds, Lists, Opens, Others, Reads, Unopened, Value, long, headless, overcount, unopened, stopped, tight, crossings, due, form, heads, limit, list, marks, sixes, turn-line, turns}
+use Rattle.sheet.specs.Sheets.{Declines, Holds, Lists, Opens, Others, Reads, Unopened, Value, long, headless, overcount, unopened, stopped, tight, crossings, due, form, heads, list, marks, sixes, turn-line, turns}
 use Rattle.sheet.specs.Theorems.{One-answer}
 use Rattle.sheet.specs.Triples.{triple-at}
 use Rattle.sheet.specs.declared.Kind.{Kind}

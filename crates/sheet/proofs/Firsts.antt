@@ -4,22 +4,22 @@ use mathlib.Core.List.{List, [], _∷_, _++_, append-assoc, append-nil}
 use Prim.Native.Nat.{ℕ, zero, suc, _+_, _-_, _<_, _≤_}
 use native.Mathlib.Nat.{zero-add}
 use native.Mathlib.Omega.{arith}
-use lib.IntN.{ℤ, pos}
+use lib.IntN.{pos}
 use lib.ListN.{length, getD, length-append, length-replicate, replicate}
 use Rattle.cc.specs.Refusals.{number, places}
 use Rattle.cc.specs.declared.Turn.the-variants.{Left}
 use Rattle.cc.specs.declared.faults.Fault.{Fault}
 use Rattle.sheet.specs.Fields.{Lacks}
-use Rattle.sheet.specs.Forms.{Fine, Form, Stops, Upto, Wrong, lines, missing, surplus, torn, outsize}
-use Rattle.sheet.specs.Sheets.{Declines, Holds, Opens, Sheet, Unopened, Value, due, form, heads, limit, long, headless, overcount, unopened, stopped, tight, written}
+use Rattle.sheet.specs.Forms.{Fine, Form, Stops, Wrong, lines, missing, surplus, torn, outsize}
+use Rattle.sheet.specs.Sheets.{Declines, Opens, Sheet, Unopened, Value, due, form, heads, limit, long, headless, overcount, unopened, stopped, tight, written}
 use Rattle.sheet.specs.Theorems.{Begins, First-line, Lined, Stops-after, none, more}
 use Rattle.sheet.specs.declared.Kind.{Kind}
 use Rattle.sheet.specs.declared.Kind.the-variants.{Points, Network, Table}
 use Rattle.sheet.proofs.Cuts.{cut-unique, not-nil}
-use Rattle.sheet.proofs.Exact.{moved, not-opened, one-opening, opens, plain, plain-heads, sheet-goes}
+use Rattle.sheet.proofs.Exact.{moved, not-opened, one-opening, opens, plain, sheet-goes}
 use Rattle.sheet.proofs.Heads.{count-six, head-whole}
 use Rattle.sheet.proofs.Lengths.{fine-turns, short-enough}
-use Rattle.sheet.proofs.Unique.{Plain, prefix, same-line, unstuck, within}
+use Rattle.sheet.proofs.Unique.{Plain, prefix, unstuck, within}
 
 -- lines of values are lines
 lined-lines : {V : Type 0} (f : Form V) → Plain f → (i : ℕ) (vs : List V) → Fine f i vs → Lined (length vs) (lines f i vs)

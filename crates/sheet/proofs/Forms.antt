@@ -1,7 +1,7 @@
 -- Reading lines one after another. Assumes nothing.
-use mathlib.Core.Path.{_≡_, refl, sym, ap, subst, _∙_}
+use mathlib.Core.Path.{_≡_, sym, ap, subst, _∙_}
 use mathlib.Core.Logic.{_≢_}
-use mathlib.Core.List.{List, [], _∷_, _++_, append-nil, append-assoc}
+use mathlib.Core.List.{List, [], _∷_, _++_, append-assoc}
 use Prim.Native.Nat.{ℕ, suc, _+_, _-_, _<_, _≤_}
 use native.Mathlib.Nat.{add-zero, sub-zero, zero-add}
 use native.Mathlib.Omega.{arith}
@@ -33,9 +33,6 @@ lines-after f vs v after =
     ∙ ap (λ l. lines f 0 vs ++ l) (append-assoc here (10 ∷ []) after)
 
 module _ {V : Type 0} (f : Form V) (text : List ℕ) where
-  pub upto-none : Upto f text [] text
-  upto-none = record { fine = tt; read = refl }
-
   pub upto-more : (vs : List V) (rest : List ℕ) (v : V) (after : List ℕ) → Upto f text vs rest → f .Written (length vs) v → f .Fits v → rest ≡ f .line (length vs) v ++ 10 ∷ after → Upto f text (vs ++ v ∷ []) after
   upto-more vs rest v after so w fits e =
       record {

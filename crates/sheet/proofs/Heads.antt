@@ -10,7 +10,7 @@ use Rattle.cc.specs.declared.faults.Fault.{Fault}
 use Rattle.cc.specs.declared.faults.Fault.the-variants.{Torn}
 use Rattle.sheet.specs.Fields.{Six, Lacks}
 use Rattle.sheet.specs.Forms.{Flawed, formless, beyond}
-use Rattle.sheet.specs.Shapes.{letter, spelled, head}
+use Rattle.sheet.specs.Shapes.{letter, head}
 use Rattle.sheet.specs.Sheets.{heads, limit, Unopened, headless, overcount}
 use Rattle.sheet.specs.declared.Kind.{Kind}
 use Rattle.sheet.specs.declared.Kind.the-variants.{Points, Network, Table}

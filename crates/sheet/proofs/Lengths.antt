@@ -1,5 +1,4 @@
 -- No sheet in range is too long. Assumes nothing.
-use mathlib.Core.Path.{_≡_, refl, sym, ap, subst, _∙_}
 use mathlib.Core.List.{List, [], _∷_, _++_}
 use Prim.Native.Nat.{ℕ, suc, _+_, _-_, _*_, _<_, _≤_}
 use native.Mathlib.Nat.{mul-suc}
@@ -12,8 +11,8 @@ use Rattle.cc.specs.declared.Turn.{Turn}
 use Rattle.sheet.specs.Fields.{Six, SixSigned}
 use Rattle.sheet.specs.Forms.{Fine, Form, lines}
 use Rattle.sheet.specs.Shapes.{side}
-use Rattle.sheet.specs.Sheets.{Sheet, Value, crossings, due, form, heads, limit, marks, turn-line, turns, written}
-use Rattle.sheet.specs.Theorems.{Every-table, Listed, Short-enough}
+use Rattle.sheet.specs.Sheets.{Sheet, Value, crossings, due, form, heads, marks, turn-line, turns, written}
+use Rattle.sheet.specs.Theorems.{Every-table, Short-enough}
 use Rattle.sheet.specs.Triples.{triple-at}
 use Rattle.sheet.specs.declared.Kind.{Kind}
 use Rattle.sheet.specs.declared.Kind.the-variants.{Points, Network, Table}

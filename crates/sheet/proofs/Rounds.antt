@@ -1,11 +1,10 @@
 -- A sheet that is written is read back. Assumes nothing.
 use mathlib.Core.Path.{_≡_, refl, sym, ap, subst, _∙_}
 use mathlib.Core.List.{List, _++_}
-use Prim.Native.Nat.{ℕ}
-use lib.ListN.{length, drop}
+use lib.ListN.{drop}
 use Rattle.std.specs.declared.result.Result.the-variants.{Ok}
 use Rattle.sheet.specs.Sheets.{Lists, Others, Reads, Value, due, list, written}
-use Rattle.sheet.specs.Theorems.{Back, Round-trip}
+use Rattle.sheet.specs.Theorems.{Round-trip}
 use Rattle.sheet.specs.declared.Kind.{Kind}
 use Rattle.sheet.specs.declared.Kind.the-variants.{Points, Network, Table}
 use Rattle.sheet.proofs.Exact.{one-answer}

@@ -20,7 +20,7 @@ use Rattle.sheet.specs.declared.entries.Triple.{Triple}
 use Rattle.cc.specs.declared.Turn.{Turn}
 use Rattle.cc.specs.declared.Turn.the-variants.{Left, Right}
 use Rattle.sheet.proofs.Fields.{decimal-lacks}
-use Rattle.sheet.proofs.Cuts.{Cuts, cut-unique, lacks-append, lacks-cons}
+use Rattle.sheet.proofs.Cuts.{cut-unique, lacks-append, lacks-cons}
 
 pub crossing-whole : (k : ℕ) → Six k → Lacks 10 ((crossings 0) .line 0 k)
 crossing-whole k six =

@@ -1,6 +1,6 @@
 -- The text of a sheet, and what reading a text answers.
 use mathlib.Core.Path.{_≡_}
-use mathlib.Core.List.{List, [], _∷_, _++_}
+use mathlib.Core.List.{List, _∷_, _++_}
 use Prim.Native.Nat.{ℕ, _+_, _-_, _*_, _/_, _<_, _≤_}
 use lib.IntN.{ℤ, pos, negsuc}
 use lib.ListN.{length, drop}
@@ -20,7 +20,7 @@ use Rattle.sheet.specs.declared.Kind.{Kind}
 use Rattle.sheet.specs.declared.Kind.the-variants.{Points, Network, Table}
 use Rattle.sheet.specs.declared.entries.Triple.{Triple}
 
--- a coordinate in range
+-- a coordinate in range: from -10000 to 10000
 abbrev pub Near : ℤ → Type 0
 Near z = (negsuc 9999 ≤ℤ z) × (z ≤ℤ pos 10000)
 

@@ -1,8 +1,7 @@
 -- The triples of a table, in rising order: first marks are compared, then second ones, then third ones.
 use mathlib.Core.Path.{_≡_}
 use mathlib.Core.Bool.{cond}
-use mathlib.Core.Logic.{_⊎_}
-use Prim.Native.Nat.{ℕ, zero, suc, _+_, _<_, _≤_}
+use Prim.Native.Nat.{ℕ, zero, suc, _+_, _<_}
 use lib.Dec.{ltb}
 use Rattle.sheet.specs.declared.entries.Spot.{Spot}
 use Rattle.sheet.specs.declared.entries.Triple.{Triple}

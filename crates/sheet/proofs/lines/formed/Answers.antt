@@ -1,9 +1,9 @@
 use mathlib.Core.Path.{_≡_, sym, ap, subst, _∙_}
-use mathlib.Core.List.{[], _∷_, _++_}
-use Prim.Native.Nat.{ℕ, _-_, _≤_, _<_}
+use mathlib.Core.List.{_∷_}
+use Prim.Native.Nat.{ℕ, _-_}
 use native.Mathlib.Omega.{arith}
-use borrow.Author.Tests.{eqb-true, ltb-true, ltb-false}
-use lib.ListN.{length, take, drop, getD}
+use borrow.Author.Tests.{eqb-true, ltb-false}
+use lib.ListN.{length, take, drop}
 use Rattle.std.specs.Options.{mapped}
 use Rattle.sheet.specs.Fields.{Says}
 use Rattle.sheet.specs.Shapes.{Parted, spelled, shape}

@@ -1,10 +1,7 @@
-use mathlib.Core.Path.{_≡_, refl, sym, ap, _∙_}
-use mathlib.Core.List.{[], _∷_}
-use Prim.Native.Nat.{_≤_, _<_}
+use mathlib.Core.Path.{refl, ap}
 use native.Mathlib.Omega.{arith}
-use borrow.Author.Tests.{eqb-apart, ltb-true, ltb-false}
+use borrow.Author.Tests.{ltb-true, ltb-false}
 use lib.ListN.{length}
-use Rattle.cc.specs.declared.Turn.the-variants.{Left, Right}
 use Rattle.sheet.proofs.Cuts.{Cuts, only-turning, rest-unique, cut-none, no-side, no-letter, sided, single}
 use Rattle.sheet.proofs.lines.turning_fields.Needs as need
 use Rattle.sheet.proofs.lines.turning_fields.Needs.{In-Continue-k, in-rest·by·then-last-lt1, in-rest·by·else-last-lt1·else-last-lt2}

@@ -1,5 +1,3 @@
-use mathlib.Core.Path.{_≡_}
-use native.Mathlib.Omega.{arith}
 use Rattle.sheet.proofs.Fields.{cut-here}
 use Rattle.sheet.proofs.numbers.cut.Needs as need
 

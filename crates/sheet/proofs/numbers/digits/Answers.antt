@@ -1,6 +1,5 @@
-use mathlib.Core.Path.{sym, subst, ap, _∙_}
+use mathlib.Core.Path.{sym, subst}
 use native.Mathlib.Omega.{arith}
-use Rattle.std.specs.Options.{Cases}
 use Rattle.std.specs.Text.{digitValue}
 use Prim.Native.Nat.{_<_}
 use Rattle.sheet.proofs.Fields.{digit-value-at, sofar-small, sofar-more, sofar-all}

@@ -1,7 +1,6 @@
-use mathlib.Core.Path.{_≡_, sym, _∙_}
+use mathlib.Core.Path.{_≡_}
 use native.Mathlib.Omega.{arith}
-use borrow.Author.Needs.{needs}
-use borrow.Author.Tests.{ltb-true, ltb-false, true-eqb, false-eqb}
+use borrow.Author.Tests.{ltb-true, ltb-false}
 use Prim.Native.Nat.{_<_, _≤_}
 use lib.ListN.{length, getD, length-take, length-drop}
 use Rattle.sheet.proofs.Fields.{written-some, written-six, written-zero, says-number}
