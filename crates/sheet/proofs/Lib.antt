@@ -1,0 +1,13 @@
+pub mod Fields
+pub mod Cuts
+pub mod Marks
+pub mod Forms
+pub mod Heads
+pub mod Turnings
+pub mod Readings
+pub mod Unique
+pub mod Exact
+pub mod Rising
+pub mod Lengths
+pub mod Rounds
+pub mod Firsts

@@ -1,0 +1,6 @@
+pub mod Fields
+pub mod Shapes
+pub mod Forms
+pub mod Triples
+pub mod Sheets
+pub mod Theorems
