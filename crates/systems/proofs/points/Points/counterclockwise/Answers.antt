@@ -14,5 +14,5 @@ pub returns : need.returns
 returns c =
     record {
       turns = sided (plane (c .args .self .now .places .now)) (c .args .p) (c .args .q) (c .args .r) (c .pre) (c .determinant .result) (c .determinant .ok)
-          (ap positive (sym (c .determinant .ensures .exact)))
+          (ap positive (sym (c .determinant .ensures .exact)));
     }
