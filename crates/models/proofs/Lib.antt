@@ -3,3 +3,4 @@ pub mod Signs
 pub mod Plane
 pub mod Firsts
 pub mod Star_laws
+pub mod Circles

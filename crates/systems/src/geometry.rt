@@ -175,10 +175,11 @@ pub(crate) fn circled(places: &[Place], c: usize) -> Option<(usize, usize, usize
     requires centre { ⌜ c < length (now places) ⌝ }
     ensures first { λ o. ⌜ BySome o (NeverTriple (length (now (places .entry))) (OnCircle (now (places .entry)) c)) (λ t. FirstTriple (length (now (places .entry))) (OnCircle (now (places .entry)) c) (t .0) (t .1) (t .2)) ⌝ }
 {
+    let n = places.len();
     let mut found = None;
-    'search: for i in 0..places.len() {
-        for j in i + 1..places.len() {
-            for k in j + 1..places.len() {
+    'search: for i in 0..n {
+        for j in i + 1..n {
+            for k in j + 1..n {
                 if on_circle(places, c, i, j, k) {
                     found = Some((i, j, k));
                     break 'search;
