@@ -1,2 +1,3 @@
 mod Facing
 mod Pairs
+mod Lengths

@@ -2,13 +2,24 @@
 
 mod arcs;
 pub mod delaunay;
+pub mod tapes;
+#[cfg(test)]
+mod tests;
 
 ghost use Rattle.sections.specs.Delaunay.{Star-is-facing-arcs, One-pair-each};
+ghost use Rattle.sections.specs.Tapes.{One-tape-answer};
 
 // A star's pairs are the arcs of the star system that face its centre, and each point has at most one.
 pub fn stars_stand() -> u8
     ensures arcs { λ _. ⌜ Star-is-facing-arcs ⌝ }
     ensures one { λ _. ⌜ One-pair-each ⌝ }
+{
+    0
+}
+
+// The contract of `tape` leaves one answer only.
+pub fn tapes_stand() -> u8
+    ensures one { λ _. ⌜ One-tape-answer ⌝ }
 {
     0
 }
