@@ -67,3 +67,9 @@ Star-is-facing-arcs = (ps : List Place) (c p q : ℕ) → Good ps → Starred ps
 -- a point has at most one pair
 abbrev pub One-pair-each : Type 0
 One-pair-each = (ps : List Place) (c p q q′ : ℕ) → Good ps → Starred ps c → Delaunay ps c p q → Delaunay ps c p q′ → q ≡ q′
+
+-- the contract of the star call leaves one answer, and one list after it (which keeps its length)
+abbrev pub One-star-answer : Type 0
+One-star-answer =
+    (ps : List Place) (c : ℕ) (before l k : List (ℕ × ℕ)) (r s : Result ℕ Fault) → length l ≡ length before → length k ≡ length before
+    → Star-answer ps c before l r → Star-answer ps c before k s → (r ≡ s) × (l ≡ k)

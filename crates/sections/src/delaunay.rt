@@ -4,6 +4,9 @@ ghost use mathlib.Core.Path.{_≡_};
 ghost use Prim.Native.Nat.{ℕ, _-_, _<_, _≤_};
 ghost use lib.ListN.{length, take};
 ghost use Rattle.std.specs.Options.{Cases as BySome};
+ghost use Rattle.std.specs.Orderings.{When};
+ghost use Rattle.laws.specs.Systems.{Left};
+ghost use Rattle.models.specs.Places.{plane};
 ghost use Rattle.models.specs.Stars.{other};
 ghost use Rattle.systems.specs.Openings.{Starred};
 ghost use Rattle.sections.specs.Delaunay.{Delaunay, Star-pairs, Star-answer};
@@ -19,6 +22,13 @@ use systems::stars::StarSystem;
 // The most marks that a system has.
 const LIMIT: usize = 128;
 
+// Whether p and q are seen from c in the counterclockwise order.
+fn faces(points: &Points<'_>, c: usize, p: usize, q: usize) -> bool
+    ensures faces { λ b. ⌜ When b (Left (plane (now (now (points .entry) .places))) c p q) (Left (plane (now (now (points .entry) .places))) c p q → ⊥) ⌝ }
+{
+    turns_left(points, c, p, q)
+}
+
 // The pair of the star about c whose first point is the one that mark i means.
 fn facing_pair(points: &Points<'_>, star: &Star<'_>, c: usize, i: usize) -> Option<(usize, usize)>
     requires tied { ⌜ now (now star .places) ≡ now (now points .places) ⌝ ∗ ⌜ now star .centre ≡ c ⌝ }
@@ -29,7 +39,7 @@ fn facing_pair(points: &Points<'_>, star: &Star<'_>, c: usize, i: usize) -> Opti
     let j = arc_from(star, i)?;
     let p = star.point(i)?;
     let q = star.point(j)?;
-    if turns_left(points, c, p, q) {
+    if faces(points, c, p, q) {
         Some((p, q))
     } else {
         None

@@ -6,13 +6,15 @@ pub mod tapes;
 #[cfg(test)]
 mod tests;
 
-ghost use Rattle.sections.specs.Delaunay.{Star-is-facing-arcs, One-pair-each};
+ghost use Rattle.sections.specs.Delaunay.{Star-is-facing-arcs, One-pair-each, One-star-answer};
 ghost use Rattle.sections.specs.Tapes.{One-tape-answer};
 
-// A star's pairs are the arcs of the star system that face its centre, and each point has at most one.
+// A star's pairs are the arcs of the star system that face its centre, each point has at most one,
+// and the contract of `star` leaves one answer only.
 pub fn stars_stand() -> u8
     ensures arcs { λ _. ⌜ Star-is-facing-arcs ⌝ }
-    ensures one { λ _. ⌜ One-pair-each ⌝ }
+    ensures pairs { λ _. ⌜ One-pair-each ⌝ }
+    ensures answer { λ _. ⌜ One-star-answer ⌝ }
 {
     0
 }

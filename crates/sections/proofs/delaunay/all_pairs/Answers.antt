@@ -10,9 +10,6 @@ use Rattle.sections.proofs.Pairs.{Pairs-below, pairs-none, pairs-pass, pairs-p
 use Rattle.sections.proofs.delaunay.all_pairs.Needs as need
 use Rattle.sections.proofs.delaunay.all_pairs.Needs.{in-Some, in-rest}
 
-pub loop-i-holds : need.loop-i-holds
-loop-i-holds c = (omega arith, c .pre .room .0, pairs-none (c .args .points .now .places .now) (c .args .c))
-
 pub loop-i-again : need.loop-i-again
 loop-i-again c =
     let ps = c .args .points .now .places .now in
@@ -39,11 +36,3 @@ loop-i-again c =
           )
     ]
 
-pub returns : need.returns
-returns c =
-    let long = ap length (c .pre .tied .0) in
-    record {
-      few = omega (arith, c .loop-i .inv .0, c .pre .room .1, c .loop-i .kept .i-end, c .count-i-end .ensures .marks, long);
-      pairs = pairs-all (c .args .points .now .places .now) (c .args .c) (c .loop-i .i) (take (c .loop-i .n) (c .loop-i .pairs)) (c .pre .starred .centre)
-          (omega (arith, c .loop-i-test .left, c .count-i-end .ensures .marks, long)) (c .loop-i .inv .2);
-    }

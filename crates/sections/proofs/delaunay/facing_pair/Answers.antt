@@ -24,8 +24,8 @@ returns-in-Break-j c =
     })
 
 -- its arc faces c
-pub returns-then-turns-left : need.returns-then-turns-left
-returns-then-turns-left c =
+pub returns-then-faces : need.returns-then-faces
+returns-then-faces c =
     let ps = c .args .points .now .places .now in
     let p = c .in-Continue-p .ensures tt .meant .1 ∙ ap (λ x. other x (c .args .i)) (c .pre .tied .1) in
     let q = c .in-Continue-q .ensures tt .meant .1 ∙ ap (λ x. other x (c .in-Continue-j .j)) (c .pre .tied .1) in
@@ -38,14 +38,14 @@ returns-then-turns-left c =
           i-means = sym p;
           j-means = sym q;
           arc = moved (c .pre .tied .0) (c .pre .tied .1) (c .args .i) (c .in-Continue-j .j) (c .in-Continue-j .ensures tt .arc);
-          faces = c .if-turns-left .ensures tt .left;
+          faces = c .if-faces .ensures tt .faces;
         })
       )
     }
 
 -- its arc faces away
-pub returns-else-turns-left : need.returns-else-turns-left
-returns-else-turns-left c =
+pub returns-else-faces : need.returns-else-faces
+returns-else-faces c =
     let ps = c .args .points .now .places .now in
     let p = c .in-Continue-p .ensures tt .meant .1 ∙ ap (λ x. other x (c .args .i)) (c .pre .tied .1) in
     let q = c .in-Continue-q .ensures tt .meant .1 ∙ ap (λ x. other x (c .in-Continue-j .j)) (c .pre .tied .1) in
@@ -53,5 +53,5 @@ returns-else-turns-left c =
     record {
       pair = λ r d.
           let e = q ∙ the-pair ps (c .args .c) (good ps (c .args .points .now .good)) (c .pre .starred) (c .args .i) (c .in-Continue-j .j) a r d in
-          c .if-turns-left .ensures tt .left (subst (λ x. x) (λ t. Left (plane ps) (c .args .c) (sym p t) (sym e t)) (d .turns))
+          c .if-faces .ensures tt .faces (subst (λ x. x) (λ t. Left (plane ps) (c .args .c) (sym p t) (sym e t)) (d .turns))
     }
