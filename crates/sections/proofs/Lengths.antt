@@ -17,7 +17,7 @@ use Rattle.cc.specs.declared.faults.Fault.the-variants.{Stranger}
 use Rattle.models.specs.declared.places.Place.{Place}
 use Rattle.models.specs.Places.{place}
 use Rattle.models.proofs.Firsts.{one-first}
-use Rattle.sections.specs.Tapes.{Root, squared, entry, follower, Taped, Tape-refused, long, strange, Tape-measured, One-tape-answer}
+use Rattle.sections.specs.Tapes.{Root, squared, entry, follower, Taped, Tape-refused, Tape-measured, One-tape-answer}
 
 -- the first n steps
 pub record Taped-below (ps : List Place) (ring : List ℕ) (n total : ℕ) : Type 0 where
@@ -66,21 +66,25 @@ one-length : (ps : List Place) (ring : List ℕ) (t u : ℕ) → Taped ps ring t
 one-length ps ring t u h k =
     h .adds
     ∙ ap sum (ext-getD 0 (h .steps) (k .steps) (h .one-each ∙ sym (k .one-each)) (λ i l.
-      let m : i < length ring = omega (arith, h .one-each) in one-root _ _ _ (h .roots i m) (k .roots i m)))
+    let m : i < length ring = omega (arith, h .one-each) in one-root _ _ _ (h .roots i m) (k .roots i m)))
     ∙ sym (k .adds)
 
-one-refusal : (ps : List Place) (ring : List ℕ) {f g : Fault} → Tape-refused ps ring f → Tape-refused ps ring g → f ≡ g
-one-refusal ps ring (long h) (long k) = refl
-one-refusal ps ring (long h) (strange l k) = absurd (omega arith)
-one-refusal ps ring (strange l h) (long k) = absurd (omega arith)
-one-refusal ps ring (strange l h) (strange m k) = ap (λ i. Stranger (entry ring i)) (one-first h k)
+one-refusal : (ps : List Place) (ring : List ℕ) (f g : Fault) → Tape-refused ps ring f → Tape-refused ps ring g → f ≡ g
+one-refusal ps ring f g h k =
+    elim (decLt 128 (length ring)) [
+      | yes l ↦ h .long l ∙ sym (k .long l)
+      | no l ↦
+          let b : length ring ≤ 128 = omega arith in
+          let u = h .strange b in
+          let v = k .strange b in
+          u .told ∙ ap (λ i. Stranger (entry ring i)) (one-first (u .first) (v .first)) ∙ sym (v .told)
+    ]
 
-not-both : (ps : List Place) (ring : List ℕ) {t : ℕ} {f : Fault} → Tape-measured ps ring t → Tape-refused ps ring f → ⊥
-not-both ps ring h (long k) = omega (arith, h .few)
-not-both ps ring h (strange {i} l k) = h .marks i (k .within) (k .holds)
+not-both : (ps : List Place) (ring : List ℕ) (t : ℕ) (f : Fault) → Tape-measured ps ring t → Tape-refused ps ring f → ⊥
+not-both ps ring t f h k = let u = k .strange (h .few) in h .marks (u .at) (u .first .within) (u .first .holds)
 
 pub one-tape-answer : One-tape-answer
 one-tape-answer ps ring (Ok t) (Ok u) h k = ap Ok (one-length ps ring t u (h .taped) (k .taped))
-one-tape-answer ps ring (Ok t) (Err f) h k = absurd (not-both ps ring h k)
-one-tape-answer ps ring (Err f) (Ok t) h k = absurd (not-both ps ring k h)
-one-tape-answer ps ring (Err f) (Err g) h k = ap Err (one-refusal ps ring h k)
+one-tape-answer ps ring (Ok t) (Err f) h k = absurd (not-both ps ring t f h k)
+one-tape-answer ps ring (Err f) (Ok t) h k = absurd (not-both ps ring t f k h)
+one-tape-answer ps ring (Err f) (Err g) h k = ap Err (one-refusal ps ring f g h k)

@@ -29,11 +29,10 @@ module _ (ps : List Place) (c : ℕ) where
         | no f ↦ elim (decLt i m) [
           | yes g ↦ absurd (too-late g)
           | no g ↦
-              let e : m ≡ i = omega arith in
-              (
+              let e : m ≡ i = omega arith in (
                 omega (arith, o .1),
                 sym (o .2) ∙ ap (λ x. pair k x .0) e,
-                sym (o .3) ∙ ap (λ x. pair k x .1) e
+                sym (o .3) ∙ ap (λ x. pair k x .1) e,
               )
         ]
       ]

@@ -119,12 +119,11 @@ module _ (ps : List Place) (c : ℕ) where
                 (o .0, omega (arith, o .1, length-push l (other c i, q)), ap (λ (z : ℕ × ℕ). z .0) (stays (o .0) (o .1)) ∙ o .2, ap (λ (z : ℕ × ℕ). z .1) (stays (o .0) (o .1)) ∙ o .3)
             | no n ↦
                 let e = same p (other c i) n (next-point c i p (λ y. b .turns .three .p≢q (sym y)) m) in
-                let w = getD-push l (other c i, q) (0, 0) (length l) refl in
-                (
+                let w = getD-push l (other c i, q) (0, 0) (length l) refl in (
                   length l,
                   omega (arith, length-push l (other c i, q)),
                   ap (λ (z : ℕ × ℕ). z .0) w ∙ sym e,
-                  ap (λ (z : ℕ × ℕ). z .1) w ∙ one q′ (subst (λ x. Delaunay ps c x q′) e b)
+                  ap (λ (z : ℕ × ℕ). z .1) w ∙ one q′ (subst (λ x. Delaunay ps c x q′) e b),
                 )
           ]
 

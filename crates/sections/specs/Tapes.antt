@@ -42,10 +42,16 @@ pub record Taped (ps : List Place) (ring : List ℕ) (total : ℕ) : Type 0 wher
 abbrev pub Strange : List Place → List ℕ → ℕ → Type 0
 Strange ps ring i = length ps ≤ entry ring i
 
--- why a ring is not taped: it has more than 128 entries, or one that is no mark, and the first of these is told
-pub data Tape-refused (ps : List Place) (ring : List ℕ) : Fault → Type 0 where
-  long : 128 < length ring → Tape-refused ps ring (Outsize 128)
-  strange : {i : ℕ} → length ring ≤ 128 → First (length ring) (Strange ps ring) i → Tape-refused ps ring (Stranger (entry ring i))
+-- the fault names the first entry that is no mark
+pub record First-stranger (ps : List Place) (ring : List ℕ) (f : Fault) : Type 0 where
+  pub at : ℕ
+  pub first : First (length ring) (Strange ps ring) at
+  pub told : f ≡ Stranger (entry ring at)
+
+-- why a ring is not taped: it has more than 128 entries, or else one that is no mark
+pub record Tape-refused (ps : List Place) (ring : List ℕ) (f : Fault) : Type 0 where
+  pub long : 128 < length ring → f ≡ Outsize 128
+  pub strange : length ring ≤ 128 → First-stranger ps ring f
 
 pub record Tape-measured (ps : List Place) (ring : List ℕ) (total : ℕ) : Type 0 where
   pub few : length ring ≤ 128

@@ -4,9 +4,9 @@ ghost use mathlib.Core.Path.{_≡_};
 ghost use Prim.Native.Nat.{ℕ, _^_, _<_, _≤_};
 ghost use lib.ListN.{length};
 ghost use Rattle.std.specs.Options.{Cases as BySome};
-ghost use Rattle.models.specs.First.{First, Never};
-ghost use Rattle.models.specs.Places.{Near, AllNear};
-ghost use Rattle.sections.specs.Tapes.{Root, squared, follower, Taped, Strange, Tape-answer};
+ghost use Rattle.models.specs.First.{Never};
+ghost use Rattle.models.specs.Places.{Near, place};
+ghost use Rattle.sections.specs.Tapes.{Root, squared, follower, Taped, Strange, First-stranger, Tape-answer};
 use cc::CcSystem;
 use cc::faults::Fault;
 use models::places::Place;
@@ -28,6 +28,17 @@ fn step(p: Place, q: Place) -> u64
     (across * across + up * up).isqrt()
 }
 
+// The step from one mark to another.
+fn step_between(points: &Points<'_>, p: usize, q: usize) -> u64
+    requires p { ⌜ p < length (now (now points .places)) ⌝ }
+    requires q { ⌜ q < length (now (now points .places)) ⌝ }
+    ensures root { λ r. ⌜ Root (squared (place (now (now (points .entry) .places)) p) (place (now (now (points .entry) .places)) q)) r ⌝ }
+    ensures small { λ r. ⌜ r < 2 ^ 32 ⌝ }
+{
+    let places = points.places();
+    step(places[p], places[q])
+}
+
 // The entry that follows the i-th on the ring.
 fn next_on(ring: &[usize], i: usize) -> usize
     requires { ⌜ i < length (now ring) ⌝ }
@@ -40,28 +51,28 @@ fn next_on(ring: &[usize], i: usize) -> usize
     }
 }
 
-// The first entry that is no mark.
-fn first_stranger(places: &[Place], ring: &[usize]) -> Option<usize>
-    ensures first { λ o. ⌜ BySome o (Never (length (now (ring .entry))) (Strange (now (places .entry)) (now (ring .entry)))) (First (length (now (ring .entry))) (Strange (now (places .entry)) (now (ring .entry)))) ⌝ }
+// The fault of the first entry that is no mark.
+fn first_stranger(points: &Points<'_>, ring: &[usize]) -> Option<Fault>
+    ensures first { λ o. ⌜ BySome o (Never (length (now (ring .entry))) (Strange (now (now (points .entry) .places)) (now (ring .entry)))) (First-stranger (now (now (points .entry) .places)) (now (ring .entry))) ⌝ }
 {
+    let n = points.count();
     for i in 0..ring.len() {
-        if ring[i] >= places.len() {
-            return Some(i);
+        if ring[i] >= n {
+            return Some(Fault::Stranger(ring[i]));
         }
     }
     None
 }
 
 // The steps around the ring, added.
-fn length_around(places: &[Place], ring: &[usize]) -> u64
-    requires near { ⌜ AllNear (now places) ⌝ }
+fn length_around(points: &Points<'_>, ring: &[usize]) -> u64
     requires few { ⌜ length (now ring) ≤ 128 ⌝ }
-    requires marks { ⌜ Never (length (now ring)) (Strange (now places) (now ring)) ⌝ }
-    ensures taped { λ t. ⌜ Taped (now (places .entry)) (now (ring .entry)) t ⌝ }
+    requires marks { ⌜ Never (length (now ring)) (Strange (now (now points .places)) (now ring)) ⌝ }
+    ensures taped { λ t. ⌜ Taped (now (now (points .entry) .places)) (now (ring .entry)) t ⌝ }
 {
     let mut total = 0;
     for i in 0..ring.len() {
-        total += step(places[ring[i]], places[next_on(ring, i)]);
+        total += step_between(points, ring[i], next_on(ring, i));
     }
     total
 }
@@ -73,9 +84,8 @@ pub fn tape(points: &Points<'_>, ring: &[usize]) -> Result<u64, Fault>
     if ring.len() > LIMIT {
         return Err(Fault::Outsize(LIMIT));
     }
-    let places = points.places();
-    if let Some(i) = first_stranger(places, ring) {
-        return Err(Fault::Stranger(ring[i]));
+    if let Some(fault) = first_stranger(points, ring) {
+        return Err(fault);
     }
-    Ok(length_around(places, ring))
+    Ok(length_around(points, ring))
 }

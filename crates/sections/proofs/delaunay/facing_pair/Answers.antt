@@ -20,7 +20,7 @@ pub returns-in-Break-j : need.returns-in-Break-j
 returns-in-Break-j c =
     rw (c .from-residual .ensures) (record {
       pair = no-pair (c .args .points .now .places .now) (c .args .c) (good (c .args .points .now .places .now) (c .args .points .now .good)) (c .pre .starred) (c .args .i)
-          (λ j a. c .in-Break-j .ensures tt .arc j (moved (sym (c .pre .tied .0)) (sym (c .pre .tied .1)) (c .args .i) j a))
+          (λ j a. c .in-Break-j .ensures tt .arc j (moved (sym (c .pre .tied .0)) (sym (c .pre .tied .1)) (c .args .i) j a));
     })
 
 -- its arc faces c
@@ -39,8 +39,8 @@ returns-then-faces c =
           j-means = sym q;
           arc = moved (c .pre .tied .0) (c .pre .tied .1) (c .args .i) (c .in-Continue-j .j) (c .in-Continue-j .ensures tt .arc);
           faces = c .if-faces .ensures tt .faces;
-        })
-      )
+        }),
+      );
     }
 
 -- its arc faces away
@@ -53,5 +53,5 @@ returns-else-faces c =
     record {
       pair = λ r d.
           let e = q ∙ the-pair ps (c .args .c) (good ps (c .args .points .now .good)) (c .pre .starred) (c .args .i) (c .in-Continue-j .j) a r d in
-          c .if-faces .ensures tt .faces (subst (λ x. x) (λ t. Left (plane ps) (c .args .c) (sym p t) (sym e t)) (d .turns))
+          c .if-faces .ensures tt .faces (subst (λ x. x) (λ t. Left (plane ps) (c .args .c) (sym p t) (sym e t)) (d .turns));
     }

@@ -14,7 +14,7 @@ use Rattle.sections.proofs.delaunay.star.Needs as need
 pub returns-in-Some : need.returns-in-Some
 returns-in-Some c =
     record {
-      answer = (refused (subst (Star-judged (c .args .points .now .places .now) (c .args .c)) (sym (c .in-Some .ensures tt .told)) (c .about-star .ensures .judged)), refl)
+      answer = (refused (subst (Star-judged (c .args .points .now .places .now) (c .args .c)) (sym (c .in-Some .ensures tt .told)) (c .about-star .ensures .judged)), refl);
     }
 
 pub all-pairs-n-requires : need.all-pairs-n-requires
@@ -38,9 +38,9 @@ returns-then-pairs-n c =
     record {
       answer = (
         subst (λ m. Star-declined ps (c .args .c) (length (c .args .pairs .now)) (Tight m)) long
-        (tight {l = take n found} starred (c .all-pairs-n .ensures .pairs) (omega (arith, long, c .if-pairs-n .taken))),
-        refl
-      )
+            (tight {l = take n found} starred (c .all-pairs-n .ensures .pairs) (omega (arith, long, c .if-pairs-n .taken))),
+        refl,
+      );
     }
 
 pub returns : need.returns
@@ -49,5 +49,5 @@ returns c =
     let starred = subst (Star-judged ps (c .args .c)) (sym (c .in-rest .ensures tt .told)) (c .about-star .ensures .judged) in
     record {
       answer = copied ps (c .args .c) (c .all-pairs-n .result) (c .args .pairs .now) (c .all-pairs-n .last .pairs) (c .copy-from-slice .last .self) starred (c .if-pairs-n .left)
-          (c .copy-from-slice .ensures .len) (c .copy-from-slice .ensures .after) (c .all-pairs-n .ensures .pairs)
+          (c .copy-from-slice .ensures .len) (c .copy-from-slice .ensures .after) (c .all-pairs-n .ensures .pairs);
     }

@@ -7,10 +7,10 @@ use Rattle.sections.proofs.tapes.length_around.Needs as need
 
 pub loop-i-again : need.loop-i-again
 loop-i-again c =
-    let ps = c .args .places .now in
+    let ps = c .args .points .now .places .now in
     let ring = c .args .ring .now in
-    (
-      omega (arith, c .loop-i .inv .0, c .step-total .ensures .small),
-      tape-more ps ring (c .loop-i .i) (c .loop-i .total) (c .step-total .result) (c .loop-i .inv .1)
-      (subst (λ m. Root (squared (place ps (entry ring (c .loop-i .i))) (place ps m)) (c .step-total .result)) (c .next-on .ensures .follows) (c .step-total .ensures .root))
+    let r = c .step-between-total .result in (
+      omega (arith, c .loop-i .inv .0, c .step-between-total .ensures .small),
+      tape-more ps ring (c .loop-i .i) (c .loop-i .total) r (c .loop-i .inv .1)
+          (subst (λ m. Root (squared (place ps (entry ring (c .loop-i .i))) (place ps m)) r) (c .next-on .ensures .follows) (c .step-between-total .ensures .root)),
     )
