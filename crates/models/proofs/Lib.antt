@@ -2,3 +2,5 @@ pub mod Polynomials
 pub mod Signs
 pub mod Plane
 pub mod Firsts
+pub mod Star_laws
+pub mod Circles

@@ -49,13 +49,14 @@ general ps g =
 pub points-keep-the-laws : Points-keep-the-laws
 points-keep-the-laws ps g = subst Lawful (sym (plane-is ps)) (lawful-by-sign (length ps) (rows ps) (general ps g))
 
--- a truncated proof serves, since `Good` has one proof at most
+-- `Good` has one proof at most, so a truncated one serves
+pub good-is-prop : (ps : List Place) → IsProp (Good ps)
+good-is-prop ps =
+    good-prop le-prop (Π-prop λ i. Π-prop λ _. near-prop le-prop le-prop) (Π-prop λ i. Π-prop λ _. Π-prop λ j. Π-prop λ _. Π-prop λ _. ¬-prop)
+    (Π-prop λ i. Π-prop λ _. Π-prop λ j. Π-prop λ _. Π-prop λ _. Π-prop λ k. Π-prop λ _. Π-prop λ _. ¬-prop)
+
 pub good : (ps : List Place) → ∥ Good ps ∥₁ → Good ps
-good ps t =
-    ∥∥₁-elim t
-    (good-prop le-prop (Π-prop λ i. Π-prop λ _. near-prop le-prop le-prop) (Π-prop λ i. Π-prop λ _. Π-prop λ j. Π-prop λ _. Π-prop λ _. ¬-prop)
-    (Π-prop λ i. Π-prop λ _. Π-prop λ j. Π-prop λ _. Π-prop λ _. Π-prop λ k. Π-prop λ _. Π-prop λ _. ¬-prop))
-    (λ g. g)
+good ps t = ∥∥₁-elim t (good-is-prop ps) (λ g. g)
 
 pub lawful-plane : (ps : List Place) → ∥ Good ps ∥₁ → Lawful (plane ps)
 lawful-plane ps t = points-keep-the-laws ps (good ps t)

@@ -4,6 +4,10 @@ use Prim.Native.Nat.{ℕ, _<_}
 use native.Mathlib.Omega.{arith}
 use Rattle.models.specs.declared.places.Place.{Place}
 use Rattle.models.specs.Places.{Good}
+use Rattle.models.specs.Stars.{Clear}
+
+none : (i : ℕ) → i < 0 → ⊥
+none i l = omega arith
 
 pub good-none : Good []
 good-none =
@@ -13,6 +17,6 @@ good-none =
       apart = λ i l. absurd (none i l);
       bent = λ i l. absurd (none i l);
     }
-  where
-    none : (i : ℕ) → i < 0 → ⊥
-    none i l = omega arith
+
+pub clear-none : (c : ℕ) → Clear [] c
+clear-none c = record { good = good-none; centre = λ l. absurd (none 0 l); round = λ i l. absurd (none i l) }

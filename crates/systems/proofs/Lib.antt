@@ -3,3 +3,4 @@ mod Differences
 mod Signs
 mod Good_lists
 mod One_judgement
+pub mod One_star_judgement

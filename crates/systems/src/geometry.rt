@@ -2,13 +2,16 @@
 
 ghost use mathlib.Core.Path.{_≡_};
 ghost use mathlib.Core.Bool.{true};
-ghost use Prim.Native.Nat.{_≤_};
+ghost use Prim.Native.Nat.{_<_, _≤_};
 ghost use lib.IntN.{_-ℤ_, _*ℤ_, natAbs};
 ghost use lib.ListN.{length};
 ghost use Rattle.std.specs.Options.{Cases as BySome};
+ghost use Rattle.std.specs.Orderings.{When};
 ghost use Rattle.models.specs.First.{First, FirstPair, FirstTriple, NeverPair, NeverTriple};
 ghost use Rattle.models.specs.Places.{Near, AllNear, Far, Twins, InLine, cross};
-ghost use Rattle.systems.specs.Offsets.{Leads, Short};
+ghost use Rattle.models.specs.Determinants.{det};
+ghost use Rattle.models.specs.Stars.{seen, OnCircle};
+ghost use Rattle.systems.specs.Offsets.{Leads, Short, ShortArm, row};
 use models::places::Place;
 use models::places::PlacePartialEq;
 
@@ -99,6 +102,85 @@ pub(crate) fn straight(places: &[Place]) -> Option<(usize, usize, usize)>
         for j in i + 1..places.len() {
             for k in j + 1..places.len() {
                 if determinant(places[i], places[j], places[k]) == 0 {
+                    found = Some((i, j, k));
+                    break 'search;
+                }
+            }
+        }
+    }
+    found
+}
+
+// A place as seen from another, with the square of its distance.
+#[derive(Clone, Copy)]
+pub(crate) struct Arm {
+    offset: Offset,
+    w: i64,
+}
+
+// The place p as seen from c.
+fn arm_to(c: Place, p: Place) -> Arm
+    requires c { ⌜ Near c ⌝ }
+    requires p { ⌜ Near p ⌝ }
+    ensures seen { λ m. ⌜ row m ≡ seen c p ⌝ }
+    ensures short { λ m. ⌜ ShortArm m ⌝ }
+{
+    let offset = offset_to(c, p);
+    Arm {
+        offset,
+        w: offset.a * offset.a + offset.b * offset.b,
+    }
+}
+
+// The determinant of three arms.
+fn arms_determinant(p: Arm, q: Arm, r: Arm) -> i64
+    requires p { ⌜ ShortArm p ⌝ }
+    requires q { ⌜ ShortArm q ⌝ }
+    requires r { ⌜ ShortArm r ⌝ }
+    ensures exact { λ d. ⌜ d ≡ det (row p) (row q) (row r) ⌝ }
+{
+    let qr = minor(q.offset, r.offset);
+    let pr = minor(p.offset, r.offset);
+    let pq = minor(p.offset, q.offset);
+    p.w * qr - q.w * pr + r.w * pq
+}
+
+// The determinant of p, q and r as seen from c.
+pub(crate) fn star_determinant(c: Place, p: Place, q: Place, r: Place) -> i64
+    requires c { ⌜ Near c ⌝ }
+    requires p { ⌜ Near p ⌝ }
+    requires q { ⌜ Near q ⌝ }
+    requires r { ⌜ Near r ⌝ }
+    ensures exact { λ d. ⌜ d ≡ det (seen c p) (seen c q) (seen c r) ⌝ }
+{
+    arms_determinant(arm_to(c, p), arm_to(c, q), arm_to(c, r))
+}
+
+// Whether three points besides c lie on one circle with it.
+fn on_circle(places: &[Place], c: usize, i: usize, j: usize, k: usize) -> bool
+    requires near { ⌜ AllNear (now places) ⌝ }
+    requires centre { ⌜ c < length (now places) ⌝ }
+    requires rising { ⌜ i < j ⌝ ∗ ⌜ j < k ⌝ ∗ ⌜ k < length (now places) ⌝ }
+    ensures circle { λ b. ⌜ When b (OnCircle (now (places .entry)) c i j k) (OnCircle (now (places .entry)) c i j k → ⊥) ⌝ }
+{
+    if i == c || j == c || k == c {
+        return false;
+    }
+    star_determinant(places[c], places[i], places[j], places[k]) == 0
+}
+
+// The first three points besides c, in rising order, that lie on one circle with it.
+pub(crate) fn circled(places: &[Place], c: usize) -> Option<(usize, usize, usize)>
+    requires near { ⌜ AllNear (now places) ⌝ }
+    requires centre { ⌜ c < length (now places) ⌝ }
+    ensures first { λ o. ⌜ BySome o (NeverTriple (length (now (places .entry))) (OnCircle (now (places .entry)) c)) (λ t. FirstTriple (length (now (places .entry))) (OnCircle (now (places .entry)) c) (t .0) (t .1) (t .2)) ⌝ }
+{
+    let n = places.len();
+    let mut found = None;
+    'search: for i in 0..n {
+        for j in i + 1..n {
+            for k in j + 1..n {
+                if on_circle(places, c, i, j, k) {
                     found = Some((i, j, k));
                     break 'search;
                 }

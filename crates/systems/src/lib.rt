@@ -2,14 +2,16 @@
 
 mod geometry;
 pub mod points;
+pub mod stars;
 #[cfg(test)]
 mod tests;
 
-ghost use Rattle.systems.specs.Openings.{One-judgement};
+ghost use Rattle.systems.specs.Openings.{One-judgement, One-star-judgement};
 
 // What an opener answers is the only answer that its contract leaves.
 pub fn openings_stand() -> u8
     ensures points { λ _. ⌜ One-judgement ⌝ }
+    ensures stars { λ _. ⌜ One-star-judgement ⌝ }
 {
     0
 }

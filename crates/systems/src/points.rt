@@ -66,6 +66,13 @@ impl<'a> Points<'a> {
         }
     }
 
+    // The places that are held.
+    pub fn places(&self) -> &'a [Place]
+        ensures held { λ l. ⌜ now l ≡ now (now (self .entry) .places) ⌝ }
+    {
+        self.places
+    }
+
     // Whether three different marks turn left.
     fn counterclockwise(&self, p: usize, q: usize, r: usize) -> bool
         requires { ⌜ Three (length (now (now self .places))) p q r ⌝ }
@@ -104,7 +111,7 @@ pub impl<'a> CcSystem for Points<'a> as PointsSystem {
     }
 
     fn turn(&self, p: usize, q: usize, r: usize) -> Option<Turn> {
-        let n = self.places.len();
+        let n = self.count();
         if p >= n || q >= n || r >= n || p == q || q == r || r == p {
             return None;
         }

@@ -2,6 +2,8 @@
 
 use super::points::Points;
 use super::points::PointsSystem;
+use super::stars::Star;
+use super::stars::StarSystem;
 use cc::CcSystem;
 use cc::Turn;
 use cc::TurnDebug;
@@ -53,4 +55,26 @@ fn a_refused_list_has_no_mark() -> Result<(), Fail> {
     let points = Points::open(&places);
     check_eq(points.accepted(), Err(Fault::Twin(0, 1)))?;
     check_eq(points.count(), 0)
+}
+
+#[test]
+fn a_star_turns() -> Result<(), Fail> {
+    let places = [at(3, 2), at(0, 0), at(10, 1), at(8, 9), at(1, 7)];
+    let points = Points::open(&places);
+    let star = Star::about(&points, 0);
+    check_eq(star.accepted(), Ok(()))?;
+    check_eq(star.count(), 4)?;
+    check_eq(star.point(3), Some(4))?;
+    check_eq(star.turn(1, 2, 3), Some(Turn::Left))?;
+    check_eq(star.turn(1, 3, 2), Some(Turn::Right))?;
+    check_eq(star.turn(1, 2, 4), None)?;
+    check_eq(Star::about(&points, 5).fault(), Some(Fault::Stranger(5)))
+}
+
+#[test]
+fn a_star_on_a_circle_is_refused() -> Result<(), Fail> {
+    let places = [at(0, 0), at(2, 0), at(2, 2), at(0, 2)];
+    let star = Star::about(&Points::open(&places), 0);
+    check_eq(star.accepted(), Err(Fault::Circled(1, 2, 3)))?;
+    check_eq(star.count(), 0)
 }

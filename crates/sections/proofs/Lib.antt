@@ -1,0 +1,4 @@
+mod Facing
+mod Pairs
+mod Lengths
+mod One_star

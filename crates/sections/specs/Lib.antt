@@ -1,0 +1,2 @@
+pub mod Delaunay
+pub mod Tapes

@@ -1,0 +1,15 @@
+use mathlib.Core.Path.{_≡_}
+use lib.ListN.{length}
+use Rattle.std.specs.declared.option.Option.the-variants.{None}
+use Rattle.models.specs.First.{NoTriple, NoMiddle, NoLast}
+use Rattle.models.specs.Stars.{OnCircle}
+use Rattle.systems.proofs.geometry.circled.Given as given
+
+abbrev pub Inv-search : given.InvT-search
+Inv-search l = (l .found ≡ None) × NoTriple (length (l .places)) (OnCircle (l .places) (l .c)) (l .i)
+
+abbrev pub Inv-loop-j : given.InvT-loop-j
+Inv-loop-j l = (l .found ≡ None) × NoMiddle (length (l .places)) (OnCircle (l .places) (l .c)) (l .i) (l .j)
+
+abbrev pub Inv-loop-k : given.InvT-loop-k
+Inv-loop-k l = (l .found ≡ None) × NoLast (OnCircle (l .places) (l .c) (l .i) (l .j)) (l .j) (l .k)
