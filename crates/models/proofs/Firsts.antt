@@ -2,7 +2,7 @@
 use mathlib.Core.Path.{_≡_, sym, subst}
 use Prim.Native.Nat.{ℕ, _<_}
 use native.Mathlib.Omega.{arith}
-use Rattle.models.specs.First.{First, FirstPair, FirstTriple, Never, NeverPair, NeverTriple}
+use Rattle.laws.specs.First.{First, FirstPair, FirstTriple, Never, NeverPair, NeverTriple}
 
 same : {i j : ℕ} → (i < j → ⊥) → (j < i → ⊥) → i ≡ j
 same h k = omega arith

@@ -7,7 +7,7 @@ use lib.ListN.{getD, length}
 use Rattle.laws.specs.Systems.{Meaning, Lawful}
 use Rattle.models.specs.declared.places.Place.{Place}
 use Rattle.models.specs.Determinants.{positive}
-use Rattle.models.specs.First.{NeverPair, NeverTriple}
+use Rattle.laws.specs.First.{NeverPair, NeverTriple}
 
 -- both coordinates lie in -10,000 ..= 10,000
 pub record Near (p : Place) : Type 0 where

@@ -10,7 +10,7 @@ use lib.ListN.{length}
 use Rattle.laws.specs.Systems.{Meaning, Lawful}
 use Rattle.models.specs.declared.places.Place.{Place}
 use Rattle.models.specs.Determinants.{Row, det, by-sign}
-use Rattle.models.specs.First.{NeverTriple}
+use Rattle.laws.specs.First.{NeverTriple}
 use Rattle.models.specs.Places.{place, Good}
 
 -- p as seen from c

@@ -12,7 +12,7 @@ use Rattle.std.specs.declared.result.Result.the-variants.{Ok, Err}
 use Rattle.cc.specs.declared.faults.Fault.{Fault}
 use Rattle.cc.specs.declared.faults.Fault.the-variants.{Outsize, Stranger}
 use Rattle.models.specs.declared.places.Place.{Place}
-use Rattle.models.specs.First.{First, Never}
+use Rattle.laws.specs.First.{First, Never}
 use Rattle.models.specs.Places.{place}
 
 -- r is the greatest whole number whose square is at most d

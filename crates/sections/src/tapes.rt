@@ -4,7 +4,7 @@ ghost use mathlib.Core.Path.{_≡_};
 ghost use Prim.Native.Nat.{ℕ, _^_, _<_, _≤_};
 ghost use lib.ListN.{length};
 ghost use Rattle.std.specs.Options.{Cases as BySome};
-ghost use Rattle.models.specs.First.{Never};
+ghost use Rattle.laws.specs.First.{Never};
 ghost use Rattle.models.specs.Places.{Near, place};
 ghost use Rattle.sections.specs.Tapes.{Root, squared, follower, Taped, Strange, First-stranger, Tape-answer};
 use cc::CcSystem;

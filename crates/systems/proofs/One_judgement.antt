@@ -11,7 +11,7 @@ use Rattle.cc.specs.declared.faults.Fault.{Fault}
 use Rattle.cc.specs.declared.faults.Fault.the-variants.{Torn, Outsize, Miscounted, Twin, Straight, Circled, Recrossed, LawlessFour, LawlessFive, Stranger, AlreadyIn, Absent, Misnamed, Tight, OffTheEdge}
 use Rattle.models.specs.declared.places.Place.{Place}
 use Rattle.models.specs.Places.{Good, AllNear, Far, Twins, InLine}
-use Rattle.models.specs.First.{First, FirstPair, FirstTriple, NeverPair}
+use Rattle.laws.specs.First.{First, FirstPair, FirstTriple, NeverPair}
 use Rattle.models.proofs.Firsts.{one-first, one-pair, one-triple, not-never-pair, not-never-triple}
 use Rattle.systems.specs.Openings.{Refused, One-judgement}
 

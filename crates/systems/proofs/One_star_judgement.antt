@@ -10,7 +10,7 @@ use Rattle.cc.specs.declared.faults.Fault.{Fault}
 use Rattle.cc.specs.declared.faults.Fault.the-variants.{Torn, Outsize, Miscounted, Twin, Straight, Circled, Recrossed, LawlessFour, LawlessFive, Stranger, AlreadyIn, Absent, Misnamed, Tight, OffTheEdge}
 use Rattle.models.specs.declared.places.Place.{Place}
 use Rattle.models.specs.Stars.{OnCircle}
-use Rattle.models.specs.First.{FirstTriple}
+use Rattle.laws.specs.First.{FirstTriple}
 use Rattle.models.proofs.Firsts.{one-triple, not-never-triple}
 use Rattle.systems.specs.Openings.{Star-refused, One-star-judgement}
 

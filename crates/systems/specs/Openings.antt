@@ -8,7 +8,7 @@ use Rattle.std.specs.declared.option.Option.the-variants.{Some, None}
 use Rattle.cc.specs.declared.faults.Fault.{Fault}
 use Rattle.cc.specs.declared.faults.Fault.the-variants.{Torn, Outsize, Miscounted, Twin, Straight, Circled, Recrossed, LawlessFour, LawlessFive, Stranger, AlreadyIn, Absent, Misnamed, Tight, OffTheEdge}
 use Rattle.models.specs.declared.places.Place.{Place}
-use Rattle.models.specs.First.{First, FirstPair, FirstTriple, NeverPair, NeverTriple}
+use Rattle.laws.specs.First.{First, FirstPair, FirstTriple, NeverPair, NeverTriple}
 use Rattle.models.specs.Places.{AllNear, Far, Twins, InLine, Good}
 use Rattle.models.specs.Stars.{OnCircle}
 

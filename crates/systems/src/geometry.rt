@@ -7,7 +7,7 @@ ghost use lib.IntN.{_-ℤ_, _*ℤ_, natAbs};
 ghost use lib.ListN.{length};
 ghost use Rattle.std.specs.Options.{Cases as BySome};
 ghost use Rattle.std.specs.Orderings.{When};
-ghost use Rattle.models.specs.First.{First, FirstPair, FirstTriple, NeverPair, NeverTriple};
+ghost use Rattle.laws.specs.First.{First, FirstPair, FirstTriple, NeverPair, NeverTriple};
 ghost use Rattle.models.specs.Places.{Near, AllNear, Far, Twins, InLine, cross};
 ghost use Rattle.models.specs.Determinants.{det};
 ghost use Rattle.models.specs.Stars.{seen, OnCircle};

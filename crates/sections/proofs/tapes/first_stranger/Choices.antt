@@ -1,4 +1,4 @@
-use Rattle.models.specs.First.{Never}
+use Rattle.laws.specs.First.{Never}
 use Rattle.sections.specs.Tapes.{Strange}
 use Rattle.sections.proofs.tapes.first_stranger.Given as given
 

@@ -1,7 +1,7 @@
 use mathlib.Core.Path.{_≡_}
 use lib.ListN.{length}
 use Rattle.std.specs.declared.option.Option.the-variants.{None}
-use Rattle.models.specs.First.{NoTriple, NoMiddle, NoLast}
+use Rattle.laws.specs.First.{NoTriple, NoMiddle, NoLast}
 use Rattle.models.specs.Places.{InLine}
 use Rattle.systems.proofs.geometry.straight.Given as given
 

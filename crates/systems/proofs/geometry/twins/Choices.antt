@@ -1,5 +1,5 @@
 use lib.ListN.{length}
-use Rattle.models.specs.First.{NoPair, NoLast}
+use Rattle.laws.specs.First.{NoPair, NoLast}
 use Rattle.models.specs.Places.{Twins}
 use Rattle.systems.proofs.geometry.twins.Given as given
 
