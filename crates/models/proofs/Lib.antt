@@ -6,3 +6,6 @@ pub mod Lists
 pub mod Patterns
 pub mod Catalogued
 pub mod Steady
+pub mod Numbers
+pub mod Entries
+pub mod Firsts

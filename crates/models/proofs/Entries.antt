@@ -1,0 +1,24 @@
+-- The place of a three, by the numbers of pairs and threes.
+use mathlib.Core.Path.{_≡_, refl, sym, _∙_, ap, subst}
+use Prim.Native.Nat.{ℕ, zero, suc, _+_, _-_, _<_, _≤_}
+use native.Mathlib.Nat.{suc-sub-suc, sub-zero}
+use native.Mathlib.Numerals.{sub-one}
+use native.Mathlib.Omega.{arith}
+use Rattle.models.specs.Threes.{pairs, threes, place2, place3}
+
+pub place2-is : (n j k : ℕ) → j < k → k < n → place2 n j k + pairs (n - j) ≡ pairs n + (k - j - 1)
+place2-is zero j k x y = absurd (omega arith)
+place2-is (suc n) j zero x y = absurd (omega arith)
+place2-is (suc n) zero (suc k) x y = rw sub-zero (omega arith)
+place2-is (suc n) (suc j) (suc k) x y =
+    rw (suc-sub-suc n j, suc-sub-suc k j) (omega (arith, place2-is n j k (omega arith) (omega arith)))
+
+pub place3-is : (n i j k : ℕ) → i < j → j < k → k < n →
+  place3 n i j k + threes (n - i) + pairs (n - j) ≡ threes n + pairs (n - i - 1) + (k - j - 1)
+place3-is zero i j k x y z = absurd (omega arith)
+place3-is (suc n) i zero k x y z = absurd (omega arith)
+place3-is (suc n) i (suc j) zero x y z = absurd (omega arith)
+place3-is (suc n) zero (suc j) (suc k) x y z =
+    rw (sub-zero, suc-sub-suc n j, suc-sub-suc k j) (omega (arith, place2-is n j k (omega arith) (omega arith), ap pairs (sub-one (suc n))))
+place3-is (suc n) (suc i) (suc j) (suc k) x y z =
+    rw (suc-sub-suc n i, suc-sub-suc n j, suc-sub-suc k j) (omega (arith, place3-is n i j k (omega arith) (omega arith) (omega arith)))
