@@ -1,12 +1,16 @@
 -- Nested loops over the rising fours and fives of the marks below n: what each loop has passed, and that what stops them is the first.
-use mathlib.Core.Path.{_≡_, refl, sym, _∙_, ap₂}
-use mathlib.Core.Logic.{_⊎_, inl, inr}
+use mathlib.Core.Path.{_≡_, refl, sym, _∙_, ap₂, subst}
+use mathlib.Core.Logic.{_⊎_, inl, inr, _↔_}
 use mathlib.Core.List.{List, [], _∷_}
 use Prim.Native.Nat.{ℕ, _<_, Ordering}
 use native.Mathlib.Omega.{arith}
+use lib.Dec.{lit≤}
 use lib.ListN.{length}
-use Rattle.laws.specs.Systems.{Meaning}
+use Rattle.laws.specs.Systems.{Meaning, Lawful}
+use Rattle.models.specs.Spread.{Turns, system}
 use Rattle.models.specs.Rising.{Mem, Rising, Before, Group, Lawful-among, All-lawful, First-lawless}
+use Rattle.models.specs.Catalogue.{four, five, pattern}
+use Rattle.models.proofs.Patterns.{among-pattern}
 use Rattle.models.proofs.Spread.{Compared, less, same, more, compared}
 
 -- Q holds of each number between two
@@ -164,3 +168,17 @@ one-first k m xs ys x y =
       | inl b ↦ absurd (x .lawless (y .first xs (x .group) b))
       | inr (inl e) ↦ e
       | inr (inr b) ↦ absurd (y .lawless (x .first ys (y .group) b)) ]
+
+-- laws among four and five rising marks, and the laws of their pattern
+module _ (g : Turns) (n : ℕ) where
+  pub four-among : (a b c d p : ℕ) → a < b → b < c → c < d → d < n → p ≡ pattern 4 g (a ∷ b ∷ c ∷ d ∷ []) →
+    Lawful-among (system n g) (a ∷ b ∷ c ∷ d ∷ []) ↔ Lawful (four p)
+  four-among a b c d p x y z w e =
+      subst (λ p. Lawful-among (system n g) (a ∷ b ∷ c ∷ d ∷ []) ↔ Lawful (four p)) (sym e)
+      (among-pattern g n 4 (lit≤ tt) (a ∷ b ∷ c ∷ d ∷ []) (group4 n a b c d x y z w))
+
+  pub five-among : (a b c d e p : ℕ) → a < b → b < c → c < d → d < e → e < n → p ≡ pattern 5 g (a ∷ b ∷ c ∷ d ∷ e ∷ []) →
+    Lawful-among (system n g) (a ∷ b ∷ c ∷ d ∷ e ∷ []) ↔ Lawful (five p)
+  five-among a b c d e p x y z v w i =
+      subst (λ p. Lawful-among (system n g) (a ∷ b ∷ c ∷ d ∷ e ∷ []) ↔ Lawful (five p)) (sym i)
+      (among-pattern g n 5 (lit≤ tt) (a ∷ b ∷ c ∷ d ∷ e ∷ []) (group5 n a b c d e x y z v w))

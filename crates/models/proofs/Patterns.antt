@@ -10,7 +10,7 @@ use lib.Dec.{T, lit≤}
 use lib.ListN.{length}
 use Rattle.laws.specs.Systems.{Meaning, Left, Lawful}
 use Rattle.models.specs.Spread.{Turns, spread, system}
-use Rattle.models.specs.Threes.{table-turns, each-three, threes}
+use Rattle.models.specs.Threes.{table, table-turns, each-three, threes}
 use Rattle.models.specs.Rising.{Mem, Rising, Below, Group, Lawful-among, All-lawful}
 use Rattle.models.specs.Catalogue.{bits, value, four, five, keeps4, keeps5, keeps, lawful-four, lawful-five, at, through, pattern}
 use Rattle.models.proofs.Spread.{Agree, spread-agree, spread-through}
@@ -38,6 +38,9 @@ module _ (g : Turns) (n : ℕ) (limit : n ≤ 128) where
       λ law. and-both (keeps4 n (spread g)) _
         (interior-tested n (spread g) (interior-of g n law))
         (transitive-tested n (spread g) (transitive-of g n law)))
+
+pub table-lawful : (n : ℕ) (turns : List Bool) → n ≤ 24 → T (keeps n (spread (table-turns n turns))) → Lawful (table n turns)
+table-lawful n turns few kept = lawful-tested (table-turns n turns) n (omega arith) .0 kept
 
 pub five-tested : (p : ℕ) → T (lawful-five p) ↔ Lawful (five p)
 five-tested p = lawful-tested (table-turns 5 (bits 10 p)) 5 (lit≤ tt)
