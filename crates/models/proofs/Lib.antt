@@ -9,3 +9,5 @@ pub mod Steady
 pub mod Numbers
 pub mod Entries
 pub mod Firsts
+pub mod Crossings
+pub mod Networked

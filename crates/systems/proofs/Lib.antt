@@ -1,2 +1,4 @@
 pub mod Judging
 pub mod Told
+pub mod Refusing
+pub mod Following
