@@ -1,10 +1,11 @@
 -- A network has one fault only, and is accepted exactly where it is one.
 use mathlib.Core.Path.{_≡_, refl, sym, ap, subst}
 use mathlib.Core.Logic.{_≢_, _↔_}
-use mathlib.Core.List.{List}
-use Prim.Native.Nat.{ℕ, _<_, _≤_}
+use mathlib.Core.List.{List, [], _∷_}
+use Prim.Native.Nat.{ℕ, zero, suc, _<_, _≤_}
 use native.Mathlib.Omega.{arith}
 use native.Mathlib.Decide.{decLt}
+use lib.Dec.{lit≤}
 use lib.ListN.{length}
 use Rattle.std.specs.declared.option.Option.{Option}
 use Rattle.std.specs.declared.option.Option.the-variants.{Some, None}
@@ -12,7 +13,7 @@ use Rattle.cc.specs.declared.faults.Fault.{Fault}
 use Rattle.cc.specs.declared.faults.Fault.the-variants.{Outsize, Recrossed}
 use Rattle.models.specs.Threes.{pairs-of}
 use Rattle.models.specs.Networks.{In-range, Legal, Network}
-use Rattle.systems.specs.Networks.{First-without, Judged, accepted, outsize, miscounted, beyond, recrossed, One-judgement}
+use Rattle.systems.specs.Networks.{First-without, Judged, accepted, outsize, miscounted, beyond, recrossed, One-judgement, Three-wires}
 
 -- the first entry without is one only, and there is none where all entries have it
 same-first : (P : ℕ → Type 0) (n t t′ : ℕ) → First-without P n t → First-without P n t′ → t ≡ t′
@@ -62,3 +63,19 @@ module _ (n : ℕ) (cs : List ℕ) where
 
 pub one-judgement : One-judgement
 one-judgement n cs f f′ j j′ = one n cs j j′
+
+pub three-wires : Three-wires
+three-wires =
+    (record { three = omega arith; turns = tt },
+      record { three = omega arith; turns = λ t. t },
+      recrossed (lit≤ tt) refl (λ s h. below s h)
+        (record { within = lit≤ tt; fails = λ h. omega arith; before = λ s h. first-legal s h }))
+  where
+    below : (s : ℕ) → s < 3 → In-range 3 (0 ∷ 0 ∷ 1 ∷ []) s
+    below zero h = lit≤ tt
+    below (suc zero) h = lit≤ tt
+    below (suc (suc zero)) h = lit≤ tt
+    below (suc (suc (suc s))) h = absurd (omega arith)
+    first-legal : (s : ℕ) → s < 1 → Legal (0 ∷ 0 ∷ 1 ∷ []) s
+    first-legal zero h = lit≤ tt
+    first-legal (suc s) h = absurd (omega arith)

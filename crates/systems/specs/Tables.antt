@@ -10,8 +10,8 @@ use Rattle.cc.specs.declared.Turn.{Turn}
 use Rattle.cc.specs.declared.faults.Fault.{Fault}
 use Rattle.cc.specs.declared.faults.Fault.the-variants.{Outsize, Miscounted, LawlessFour, LawlessFive}
 use Rattle.laws.specs.Systems.{Meaning, Lawful}
-use Rattle.models.specs.Threes.{table, threes-of}
-use Rattle.models.specs.Rising.{All-lawful, First-lawless}
+use Rattle.models.specs.Threes.{table, threes-of, place3}
+use Rattle.models.specs.Rising.{Before, All-lawful, First-lawless}
 use Rattle.systems.specs.Orders.{is-left}
 
 -- what a list of turns means: the turn of i < j < k is the entry of that three, and other orders follow by laws 1 and 2
@@ -41,3 +41,10 @@ Holds n list count held (Some f) = (count ≡ 0) × (held ≡ [])
 -- a table has one fault only, or none
 abbrev pub One-judgement : Type 0
 One-judgement = (n : ℕ) (turns : List Turn) (f f′ : Option Fault) → Judged n turns f → Judged n turns f′ → f ≡ f′
+
+-- the threes stand in rising order: each has its entry in a list of n (n - 1) (n - 2) / 6, and of two threes the one before has the smaller
+abbrev pub Entries-rise : Type 0
+Entries-rise =
+    (n i j k i′ j′ k′ : ℕ) → n ≤ 24 → i < j → j < k → k < n → i′ < j′ → j′ < k′ → k′ < n →
+    (place3 n i j k < threes-of n) ×
+    (Before (i ∷ j ∷ k ∷ []) (i′ ∷ j′ ∷ k′ ∷ []) → place3 n i j k < place3 n i′ j′ k′)

@@ -14,19 +14,12 @@ ghost use Rattle.models.specs.Threes.{pairs-of};
 ghost use Rattle.models.specs.Networks.{upper, lower, In-range, Legal, Network, network, crossing};
 ghost use Rattle.models.proofs.Networked.{network-lawful-few};
 ghost use Rattle.systems.specs.Tables.{Holds};
-ghost use Rattle.systems.specs.Networks.{First-without, Judged, Timed, One-judgement};
+ghost use Rattle.systems.specs.Networks.{First-without, Judged, Timed, One-judgement, Three-wires};
 use cc::CcSystem;
 use cc::Turn;
 use cc::faults::Fault;
+use super::counts::pairs;
 use super::orders::in_order;
-
-// How many pairs n wires have.
-fn pairs(n: usize) -> usize
-    requires { ⌜ n ≤ 32 ⌝ }
-    ensures number { λ r. ⌜ r ≡ pairs-of n ⌝ }
-{
-    n * n.saturating_sub(1) / 2
-}
 
 // The first crossing that has not both its places among n wires.
 fn beyond(n: usize, crossings: &[usize]) -> Option<usize>
@@ -165,9 +158,43 @@ pub impl<'a> CcSystem for ReflectionNetwork<'a> as ReflectionNetworkSystem {
     }
 }
 
-// The contract of the opener leaves one answer only.
-pub fn one_judgement_stands() -> u8
+// The contract of the opener leaves one answer only, as in the examples.
+pub fn networks_stand() -> u8
     ensures one { λ _. ⌜ One-judgement ⌝ }
+    ensures examples { λ _. ⌜ Three-wires ⌝ }
 {
     0
+}
+
+#[cfg(test)]
+mod tests {
+    use super::*;
+    use cc::TurnDebug;
+    use cc::TurnPartialEq;
+    use cc::faults::FaultDebug;
+    use cc::faults::FaultPartialEq;
+    use std::test::*;
+
+    #[test]
+    fn three_wires() -> Result<(), Fail> {
+        let crossings = [0, 1, 0];
+        let network = ReflectionNetwork::open(3, &crossings);
+        check_eq(network.accepted(), Ok(()))?;
+        check_eq(network.turn(0, 1, 2), Some(Turn::Left))?;
+        check_eq(network.turn(0, 2, 1), Some(Turn::Right))?;
+        let crossings = [1, 0, 1];
+        let network = ReflectionNetwork::open(3, &crossings);
+        check_eq(network.turn(0, 1, 2), Some(Turn::Right))
+    }
+
+    #[test]
+    fn refusals() -> Result<(), Fail> {
+        let crossings = [0, 0, 1];
+        check_eq(ReflectionNetwork::open(3, &crossings).fault(), Some(Fault::Recrossed(1)))?;
+        check_eq(ReflectionNetwork::open(4, &crossings).fault(), Some(Fault::Miscounted(3)))?;
+        check_eq(ReflectionNetwork::open(33, &crossings).fault(), Some(Fault::Outsize(32)))?;
+        let crossings = [0, 1, 2];
+        check_eq(ReflectionNetwork::open(3, &crossings).fault(), Some(Fault::Outsize(2)))?;
+        check_eq(ReflectionNetwork::open(1, &[]).fault(), None)
+    }
 }

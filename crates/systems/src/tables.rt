@@ -12,36 +12,20 @@ ghost use Rattle.std.specs.declared.option.Option.the-variants.{Some, None};
 ghost use Rattle.std.specs.declared.result.Result.the-variants.{Ok, Err};
 ghost use Rattle.laws.specs.Systems.{Lawful};
 ghost use Rattle.models.specs.Spread.{spread};
-ghost use Rattle.models.specs.Threes.{table-turns, place3, pairs-of, threes-of};
+ghost use Rattle.models.specs.Threes.{table-turns, place3, threes-of};
 ghost use Rattle.models.specs.Rising.{All-lawful, First-lawless};
 ghost use Rattle.models.specs.Catalogue.{keeps, pattern};
 ghost use Rattle.models.proofs.Patterns.{table-lawful};
 ghost use Rattle.systems.specs.Orders.{is-left};
-ghost use Rattle.systems.specs.Tables.{turn-table, Fits, Judged, Holds, One-judgement};
+ghost use Rattle.systems.specs.Tables.{turn-table, Fits, Judged, Holds, One-judgement, Entries-rise};
 use cc::CcSystem;
 use cc::Turn;
 use cc::faults::Fault;
 use models::catalogue::is_lawful_five;
 use models::catalogue::is_lawful_four;
+use super::counts::pairs;
+use super::counts::threes;
 use super::orders::in_order;
-
-// How many pairs n marks have.
-fn pairs(n: usize) -> usize
-    requires { ⌜ n ≤ 24 ⌝ }
-    ensures number { λ r. ⌜ r ≡ pairs-of n ⌝ }
-    ensures few { λ r. ⌜ r ≤ 496 ⌝ }
-{
-    n * n.saturating_sub(1) / 2
-}
-
-// How many threes n marks have.
-fn threes(n: usize) -> usize
-    requires { ⌜ n ≤ 24 ⌝ }
-    ensures number { λ r. ⌜ r ≡ threes-of n ⌝ }
-    ensures few { λ r. ⌜ r ≤ 2024 ⌝ }
-{
-    n * n.saturating_sub(1) * n.saturating_sub(2) / 6
-}
 
 // The entry of i < j < k among the threes of n marks in rising order.
 fn entry(n: usize, i: usize, j: usize, k: usize) -> usize
@@ -222,9 +206,48 @@ pub impl<'a> CcSystem for TurnTable<'a> as TurnTableSystem {
     }
 }
 
-// The contract of an opener leaves one answer only.
-pub fn one_judgement_stands() -> u8
+// The theory of turn tables: the contract of the opener leaves one answer only, and the threes stand in rising order.
+pub fn tables_stand() -> u8
     ensures one { λ _. ⌜ One-judgement ⌝ }
+    ensures entries { λ _. ⌜ Entries-rise ⌝ }
 {
     0
+}
+
+#[cfg(test)]
+mod tests {
+    use super::*;
+    use cc::TurnDebug;
+    use cc::TurnPartialEq;
+    use cc::faults::FaultDebug;
+    use cc::faults::FaultPartialEq;
+    use std::test::*;
+
+    #[test]
+    fn four_of_pattern_five() -> Result<(), Fail> {
+        let turns = [Turn::Left, Turn::Right, Turn::Left, Turn::Right];
+        let table = TurnTable::open(4, &turns);
+        check_eq(table.fault(), Some(Fault::LawlessFour(0, 1, 2, 3)))?;
+        check_eq(table.turn(0, 1, 2), None)
+    }
+
+    #[test]
+    fn five_with_lawful_fours() -> Result<(), Fail> {
+        let mut turns = [Turn::Right; 10];
+        turns[1] = Turn::Left;
+        let table = TurnTable::open(5, &turns);
+        check_eq(table.fault(), Some(Fault::LawlessFive(0, 1, 2, 3, 4)))
+    }
+
+    #[test]
+    fn orders_of_three() -> Result<(), Fail> {
+        let turns = [Turn::Left];
+        let table = TurnTable::open(3, &turns);
+        check_eq(table.accepted(), Ok(()))?;
+        check_eq(table.turn(2, 0, 1), Some(Turn::Left))?;
+        check_eq(table.turn(1, 0, 2), Some(Turn::Right))?;
+        check_eq(table.turn(0, 1, 3), None)?;
+        check_eq(TurnTable::open(4, &turns).fault(), Some(Fault::Miscounted(1)))?;
+        check_eq(TurnTable::open(25, &turns).fault(), Some(Fault::Outsize(24)))
+    }
 }

@@ -2,7 +2,7 @@
 use mathlib.Core.Path.{refl}
 use native.Mathlib.Omega.{arith}
 use Rattle.models.proofs.Numbers.{pairs-few}
-use Rattle.systems.proofs.tables.pairs.Needs as need
+use Rattle.systems.proofs.counts.pairs.Needs as need
 
 pub returns : need.returns
 returns c = rw (c .saturating-sub .ensures) record { number = refl; few = pairs-few (c .args .n) (omega arith) }

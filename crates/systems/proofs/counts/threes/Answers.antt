@@ -2,7 +2,7 @@
 use mathlib.Core.Path.{refl}
 use native.Mathlib.Omega.{arith}
 use Rattle.models.proofs.Numbers.{threes-few}
-use Rattle.systems.proofs.tables.threes.Needs as need
+use Rattle.systems.proofs.counts.threes.Needs as need
 
 pub returns : need.returns
 returns c =
