@@ -89,7 +89,7 @@ first-none f zero s h t = absurd (omega arith)
 first-none f (suc n) s h t = go (f 0) refl s (first-none (λ t. f (suc t)) n) h t
   where
     go : (b : Bool) → f 0 ≡ b → (s : ℕ) → ((s : ℕ) → s < first (λ t. f (suc t)) n → T (f (suc s)) → ⊥) →
-      s < cond b 0 (suc (first (λ t. f (suc t)) n)) → T (f s) → ⊥
+        s < cond b 0 (suc (first (λ t. f (suc t)) n)) → T (f s) → ⊥
     go true e s rest h t = absurd (omega arith)
     go false e zero rest h t = subst T e t
     go false e (suc s) rest h t = rest s (omega arith) t
@@ -99,7 +99,7 @@ first-is f zero h = absurd (omega arith)
 first-is f (suc n) h = go (f 0) refl (first-is (λ t. f (suc t)) n) h
   where
     go : (b : Bool) → f 0 ≡ b → (first (λ t. f (suc t)) n < n → T (f (suc (first (λ t. f (suc t)) n)))) →
-      cond b 0 (suc (first (λ t. f (suc t)) n)) < suc n → T (f (cond b 0 (suc (first (λ t. f (suc t)) n))))
+        cond b 0 (suc (first (λ t. f (suc t)) n)) < suc n → T (f (cond b 0 (suc (first (λ t. f (suc t)) n))))
     go true e rest h = subst T (sym e) tt
     go false e rest h = rest (omega arith)
 
@@ -128,7 +128,8 @@ module _ (cs : List ℕ) where
       record {
         within = h;
         above = eqb→eq (upper cs t) i (and-left (eqb (upper cs t) i) (eqb (lower cs t) j) passes);
-        below = eqb→eq (lower cs t) j (and-right (eqb (upper cs t) i) (eqb (lower cs t) j) passes) }
+        below = eqb→eq (lower cs t) j (and-right (eqb (upper cs t) i) (eqb (lower cs t) j) passes);
+      }
 
   not-before : (i j t : ℕ) → t < crossing cs i j → upper cs t ≡ i → lower cs t ≡ j → ⊥
   not-before i j t h x y =
@@ -157,32 +158,43 @@ module _ (cs : List ℕ) (legal : (t : ℕ) → t < length cs → Legal cs t) wh
   below-after i j h zero k l = absurd (omega arith)
   below-after i j h (suc t) k l =
       elim (ℕ-discrete (crossing cs i j) t) [
-        yes e ↦
-          let c = crossing-is cs i j (omega arith) in
-          let m = met cs i j (crossing cs i j) (c .above) (c .below) in
-          subst (λ s. place cs (suc s) j < place cs (suc s) i) e
-          (swaps (getD cs (crossing cs i j) 0) (place cs (crossing cs i j) i) (place cs (crossing cs i j) j) (m .0) (m .1))
-      | no e ↦ stays-below i j h t (omega arith) (below-after i j h t (omega arith) (omega arith)) ]
+        | yes e ↦
+            let c = crossing-is cs i j (omega arith) in
+            let m = met cs i j (crossing cs i j) (c .above) (c .below) in
+            subst (λ s. place cs (suc s) j < place cs (suc s) i) e
+            (swaps (getD cs (crossing cs i j) 0) (place cs (crossing cs i j) i) (place cs (crossing cs i j) j) (m .0) (m .1))
+        | no e ↦ stays-below i j h t (omega arith) (below-after i j h t (omega arith) (omega arith))
+      ]
 
   -- so they cross at no other entry
   pub crosses-at : (i j t : ℕ) → i < j → Cross cs i j t → t ≡ crossing cs i j
   crosses-at i j t h c =
       let m = met cs i j t (c .above) (c .below) in
       elim (decLt t (crossing cs i j)) [
-        yes k ↦ absurd (not-before cs i j t k (c .above) (c .below))
-      | no k ↦ elim (decLt (crossing cs i j) t) [
-          yes l ↦ absurd (omega (arith, below-after i j h t l (omega (arith, c .within)), m .0, m .1))
-        | no l ↦ omega arith ] ]
+        | yes k ↦ absurd (not-before cs i j t k (c .above) (c .below))
+        | no k ↦ elim (decLt (crossing cs i j) t) [
+          | yes l ↦ absurd (omega (arith, below-after i j h t l (omega (arith, c .within)), m .0, m .1))
+          | no l ↦ omega arith
+        ]
+      ]
 
   -- of three wires, the first and the last cross between the crossings of the others
   pub between-low : (i j k : ℕ) → i < j → j < k → crossing cs i k < crossing cs i j → crossing cs i k < crossing cs j k → ⊥
   between-low i j k x y a b =
       let t = suc (crossing cs i k) in
-      omega (arith, above-until cs i j x t a, above-until cs j k y t b,
-        below-after i k (omega arith) t (omega arith) (omega (arith, crossing-at-most cs i j)))
+      omega (
+        arith,
+        above-until cs i j x t a,
+        above-until cs j k y t b,
+        below-after i k (omega arith) t (omega arith) (omega (arith, crossing-at-most cs i j)),
+      )
 
   pub between-high : (i j k : ℕ) → i < j → j < k → crossing cs i j < crossing cs i k → crossing cs j k < crossing cs i k → ⊥
   between-high i j k x y a b =
       let t = crossing cs i k in
-      omega (arith, below-after i j x t a (crossing-at-most cs i k), below-after j k y t b (crossing-at-most cs i k),
-        above-until cs i k (omega arith) t (omega arith))
+      omega (
+        arith,
+        below-after i j x t a (crossing-at-most cs i k),
+        below-after j k y t b (crossing-at-most cs i k),
+        above-until cs i k (omega arith) t (omega arith),
+      )

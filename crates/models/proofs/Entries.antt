@@ -19,7 +19,7 @@ place2-is (suc n) (suc j) (suc k) x y =
     rw (suc-sub-suc n j, suc-sub-suc k j) (omega (arith, place2-is n j k (omega arith) (omega arith)))
 
 pub place3-is : (n i j k : ℕ) → i < j → j < k → k < n →
-  place3 n i j k + threes (n - i) + pairs (n - j) ≡ threes n + pairs (n - i - 1) + (k - j - 1)
+    place3 n i j k + threes (n - i) + pairs (n - j) ≡ threes n + pairs (n - i - 1) + (k - j - 1)
 place3-is zero i j k x y z = absurd (omega arith)
 place3-is (suc n) i zero k x y z = absurd (omega arith)
 place3-is (suc n) i (suc j) zero x y z = absurd (omega arith)
@@ -30,7 +30,7 @@ place3-is (suc n) (suc i) (suc j) (suc k) x y z =
 
 -- the same by the formulas
 pub entry-is : (n i j k : ℕ) → i < j → j < k → k < n → n ≤ 24 →
-  place3 n i j k + threes-of (n - i) + pairs-of (n - j) ≡ threes-of n + pairs-of (n - i - 1) + (k - j - 1)
+    place3 n i j k + threes-of (n - i) + pairs-of (n - j) ≡ threes-of n + pairs-of (n - i - 1) + (k - j - 1)
 entry-is n i j k x y z few =
     let a = threes-is n few in
     let b = threes-is (n - i) (omega arith) in
@@ -38,9 +38,9 @@ entry-is n i j k x y z few =
     let d = pairs-is (n - i - 1) in
     let e = place3-is n i j k x y z in
     subst (λ m. place3 n i j k + m + pairs-of (n - j) ≡ threes-of n + pairs-of (n - i - 1) + (k - j - 1)) b
-      (subst (λ m. place3 n i j k + threes (n - i) + m ≡ threes-of n + pairs-of (n - i - 1) + (k - j - 1)) c
-        (subst (λ m. place3 n i j k + threes (n - i) + pairs (n - j) ≡ m + pairs-of (n - i - 1) + (k - j - 1)) a
-          (subst (λ m. place3 n i j k + threes (n - i) + pairs (n - j) ≡ threes n + m + (k - j - 1)) d e)))
+    (subst (λ m. place3 n i j k + threes (n - i) + m ≡ threes-of n + pairs-of (n - i - 1) + (k - j - 1)) c
+    (subst (λ m. place3 n i j k + threes (n - i) + pairs (n - j) ≡ m + pairs-of (n - i - 1) + (k - j - 1)) a
+    (subst (λ m. place3 n i j k + threes (n - i) + pairs (n - j) ≡ threes n + m + (k - j - 1)) d e)))
 
 pub entry-below : (n i j k : ℕ) → i < j → j < k → k < n → n ≤ 24 → place3 n i j k < threes-of n
 entry-below n i j k x y z few = subst (λ m. place3 n i j k < m) (threes-is n few) (place3-below n i j k x y z)
@@ -63,7 +63,7 @@ pair-rises (suc n) (suc j) (suc k) (suc j′) (suc k′) a b c d (inr (e, inl h)
 pair-rises (suc n) (suc j) (suc k) (suc j′) (suc k′) a b c d (inr (e, inr (f, g))) = absurd g
 
 pub three-rises : (n i j k i′ j′ k′ : ℕ) → i < j → j < k → k < n → i′ < j′ → j′ < k′ → k′ < n →
-  Before (i ∷ j ∷ k ∷ []) (i′ ∷ j′ ∷ k′ ∷ []) → place3 n i j k < place3 n i′ j′ k′
+    Before (i ∷ j ∷ k ∷ []) (i′ ∷ j′ ∷ k′ ∷ []) → place3 n i j k < place3 n i′ j′ k′
 three-rises zero i j k i′ j′ k′ a b c d e f h = absurd (omega arith)
 three-rises (suc n) i zero k i′ j′ k′ a b c d e f h = absurd (omega arith)
 three-rises (suc n) i (suc j) zero i′ j′ k′ a b c d e f h = absurd (omega arith)

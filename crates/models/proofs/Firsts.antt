@@ -21,13 +21,15 @@ pub group4 : (n a b c d : ℕ) → a < b → b < c → c < d → d < n → Group
 group4 n a b c d x y z w = record {
   long = refl;
   rising = (λ k m. omega arith, (λ k m. omega arith, (λ k m. omega arith, (λ k m. absurd m, tt))));
-  below = λ k m. omega arith }
+  below = λ k m. omega arith;
+}
 
 pub group5 : (n a b c d e : ℕ) → a < b → b < c → c < d → d < e → e < n → Group 5 n (a ∷ b ∷ c ∷ d ∷ e ∷ [])
 group5 n a b c d e x y z v w = record {
   long = refl;
   rising = (λ k m. omega arith, (λ k m. omega arith, (λ k m. omega arith, (λ k m. omega arith, (λ k m. absurd m, tt)))));
-  below = λ k m. omega arith }
+  below = λ k m. omega arith;
+}
 
 module _ (m : Meaning) where
   -- the fours that begin so are lawful
@@ -44,7 +46,7 @@ module _ (m : Meaning) where
   First a = (k : ℕ) → k < a → Second k (m .count)
 
   four-passed : (a b c d : ℕ) → First a → Second a b → Third a b c → Fourth a b c d →
-    (w x y z : ℕ) → w < x → x < y → y < z → z < m .count → Before (w ∷ x ∷ y ∷ z ∷ []) (a ∷ b ∷ c ∷ d ∷ []) → Lawful-among m (w ∷ x ∷ y ∷ z ∷ [])
+      (w x y z : ℕ) → w < x → x < y → y < z → z < m .count → Before (w ∷ x ∷ y ∷ z ∷ []) (a ∷ b ∷ c ∷ d ∷ []) → Lawful-among m (w ∷ x ∷ y ∷ z ∷ [])
   four-passed a b c d one two three four w x y z p q r s (inl h) = one w h x (omega arith) p y (omega arith) q z s r
   four-passed a b c d one two three four w x y z p q r s (inr (e, inl h)) = rw e (two x h (omega arith) y (omega arith) q z s r)
   four-passed a b c d one two three four w x y z p q r s (inr (e, inr (f, inl h))) = rw (e, f) (three y h (omega arith) z s r)
@@ -52,11 +54,12 @@ module _ (m : Meaning) where
   four-passed a b c d one two three four w x y z p q r s (inr (e, inr (f, inr (g, inr (h, k))))) = absurd k
 
   pub first-four : (a b c d : ℕ) → First a → Second a b → Third a b c → Fourth a b c d →
-    a < b → b < c → c < d → d < m .count → (Lawful-among m (a ∷ b ∷ c ∷ d ∷ []) → ⊥) → First-lawless 4 m (a ∷ b ∷ c ∷ d ∷ [])
+      a < b → b < c → c < d → d < m .count → (Lawful-among m (a ∷ b ∷ c ∷ d ∷ []) → ⊥) → First-lawless 4 m (a ∷ b ∷ c ∷ d ∷ [])
   first-four a b c d one two three four x y z w lawless = record {
     group = group4 (m .count) a b c d x y z w;
     lawless = lawless;
-    first = go }
+    first = go;
+  }
     where
       go : (ys : List ℕ) → Group 4 (m .count) ys → Before ys (a ∷ b ∷ c ∷ d ∷ []) → Lawful-among m ys
       go (p ∷ q ∷ r ∷ s ∷ []) group before =
@@ -99,8 +102,8 @@ module _ (m : Meaning) where
   First5 a = (k : ℕ) → k < a → Second5 k (m .count)
 
   five-passed : (a b c d e : ℕ) → First5 a → Second5 a b → Third5 a b c → Fourth5 a b c d → Fifth5 a b c d e →
-    (v w x y z : ℕ) → v < w → w < x → x < y → y < z → z < m .count →
-    Before (v ∷ w ∷ x ∷ y ∷ z ∷ []) (a ∷ b ∷ c ∷ d ∷ e ∷ []) → Lawful-among m (v ∷ w ∷ x ∷ y ∷ z ∷ [])
+      (v w x y z : ℕ) → v < w → w < x → x < y → y < z → z < m .count →
+      Before (v ∷ w ∷ x ∷ y ∷ z ∷ []) (a ∷ b ∷ c ∷ d ∷ e ∷ []) → Lawful-among m (v ∷ w ∷ x ∷ y ∷ z ∷ [])
   five-passed a b c d e one two three four five v w x y z p q r s t (inl h) =
       one v h w (omega arith) p x (omega arith) q y (omega arith) r z t s
   five-passed a b c d e one two three four five v w x y z p q r s t (inr (i, inl h)) =
@@ -114,11 +117,12 @@ module _ (m : Meaning) where
   five-passed a b c d e one two three four five v w x y z p q r s t (inr (i, inr (j, inr (k, inr (l, inr (h, f)))))) = absurd f
 
   pub first-five : (a b c d e : ℕ) → First5 a → Second5 a b → Third5 a b c → Fourth5 a b c d → Fifth5 a b c d e →
-    a < b → b < c → c < d → d < e → e < m .count → (Lawful-among m (a ∷ b ∷ c ∷ d ∷ e ∷ []) → ⊥) → First-lawless 5 m (a ∷ b ∷ c ∷ d ∷ e ∷ [])
+      a < b → b < c → c < d → d < e → e < m .count → (Lawful-among m (a ∷ b ∷ c ∷ d ∷ e ∷ []) → ⊥) → First-lawless 5 m (a ∷ b ∷ c ∷ d ∷ e ∷ [])
   first-five a b c d e one two three four five x y z v w lawless = record {
     group = group5 (m .count) a b c d e x y z v w;
     lawless = lawless;
-    first = go }
+    first = go;
+  }
     where
       go : (ys : List ℕ) → Group 5 (m .count) ys → Before ys (a ∷ b ∷ c ∷ d ∷ e ∷ []) → Lawful-among m ys
       go (p ∷ q ∷ r ∷ s ∷ t ∷ []) group before =
@@ -155,7 +159,7 @@ before-or-after (x ∷ xs) [] e = absurd (omega arith)
 before-or-after (x ∷ xs) (y ∷ ys) e = go (compared x y) (before-or-after xs ys (omega arith))
   where
     go : {o : Ordering} → Compared x y o → Before xs ys ⊎ ((xs ≡ ys) ⊎ Before ys xs) →
-      Before (x ∷ xs) (y ∷ ys) ⊎ ((x ∷ xs ≡ y ∷ ys) ⊎ Before (y ∷ ys) (x ∷ xs))
+        Before (x ∷ xs) (y ∷ ys) ⊎ ((x ∷ xs ≡ y ∷ ys) ⊎ Before (y ∷ ys) (x ∷ xs))
     go (less h) rest = inl (inl h)
     go (same h) (inl b) = inl (inr (h, b))
     go (same h) (inr (inl i)) = inr (inl (ap₂ _∷_ h i))
@@ -167,18 +171,19 @@ one-first k m xs ys x y =
     elim (before-or-after xs ys (x .group .long ∙ sym (y .group .long))) [
       | inl b ↦ absurd (x .lawless (y .first xs (x .group) b))
       | inr (inl e) ↦ e
-      | inr (inr b) ↦ absurd (y .lawless (x .first ys (y .group) b)) ]
+      | inr (inr b) ↦ absurd (y .lawless (x .first ys (y .group) b))
+    ]
 
 -- laws among four and five rising marks, and the laws of their pattern
 module _ (g : Turns) (n : ℕ) where
   pub four-among : (a b c d p : ℕ) → a < b → b < c → c < d → d < n → p ≡ pattern 4 g (a ∷ b ∷ c ∷ d ∷ []) →
-    Lawful-among (system n g) (a ∷ b ∷ c ∷ d ∷ []) ↔ Lawful (four p)
+      Lawful-among (system n g) (a ∷ b ∷ c ∷ d ∷ []) ↔ Lawful (four p)
   four-among a b c d p x y z w e =
       subst (λ p. Lawful-among (system n g) (a ∷ b ∷ c ∷ d ∷ []) ↔ Lawful (four p)) (sym e)
       (among-pattern g n 4 (lit≤ tt) (a ∷ b ∷ c ∷ d ∷ []) (group4 n a b c d x y z w))
 
   pub five-among : (a b c d e p : ℕ) → a < b → b < c → c < d → d < e → e < n → p ≡ pattern 5 g (a ∷ b ∷ c ∷ d ∷ e ∷ []) →
-    Lawful-among (system n g) (a ∷ b ∷ c ∷ d ∷ e ∷ []) ↔ Lawful (five p)
+      Lawful-among (system n g) (a ∷ b ∷ c ∷ d ∷ e ∷ []) ↔ Lawful (five p)
   five-among a b c d e p x y z v w i =
       subst (λ p. Lawful-among (system n g) (a ∷ b ∷ c ∷ d ∷ e ∷ []) ↔ Lawful (five p)) (sym i)
       (among-pattern g n 5 (lit≤ tt) (a ∷ b ∷ c ∷ d ∷ e ∷ []) (group5 n a b c d e x y z v w))

@@ -69,7 +69,7 @@ read-three (suc n) h i zero k x y z = absurd (omega arith)
 read-three (suc n) h i (suc j) zero x y z = absurd (omega arith)
 read-three (suc n) h zero (suc j) (suc k) x y z =
     in-first (each-two n (λ j k. h 0 (suc j) (suc k))) _ (pairs n) (place2 n j k) (length-two n _)
-      (place2-below n j k (le-of-suc-le-suc y) (le-of-suc-le-suc z)) ∙
+    (place2-below n j k (le-of-suc-le-suc y) (le-of-suc-le-suc z)) ∙
     read-two n _ j k (le-of-suc-le-suc y) (le-of-suc-le-suc z)
 read-three (suc n) h (suc i) (suc j) (suc k) x y z =
     in-second (each-two n (λ j k. h 0 (suc j) (suc k))) _ (pairs n) (place3 n i j k) (length-two n _) ∙

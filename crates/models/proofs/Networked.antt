@@ -54,42 +54,48 @@ module _ (n : ℕ) (cs : List ℕ) (range : (t : ℕ) → t < length cs → In-r
 
   -- a pair that none of them swaps is not among these
   not-crossed : (i j : ℕ) → i < j → j < n → (t : ℕ) → t ≤ length cs → ((s : ℕ) → s < t → Cross cs i j s → ⊥) →
-    All (λ c. c ≢ place2 n i j) (crossed t)
+      All (λ c. c ≢ place2 n i j) (crossed t)
   not-crossed i j x y zero h none = tt
-  not-crossed i j x y (suc t) h none =
-      (λ e.
+  not-crossed i j x y (suc t) h none = (
+    λ e.
         let same = pairs-apart n (upper cs t) (lower cs t) i j (legal t h) (lower-in t h) x y e in
         none t (omega arith) (record { within = h; above = same .0; below = same .1 }),
-      not-crossed i j x y t (omega arith) (λ s k. none s (omega arith)))
+    not-crossed i j x y t (omega arith) (λ s k. none s (omega arith)),
+  )
 
   crossed-apart : (t : ℕ) → t ≤ length cs → Apart (crossed t)
   crossed-apart zero h = tt
-  crossed-apart (suc t) h =
-      (not-crossed (upper cs t) (lower cs t) (legal t h) (lower-in t h) t (omega arith)
+  crossed-apart (suc t) h = (
+    not-crossed (upper cs t) (lower cs t) (legal t h) (lower-in t h) t (omega arith)
         (λ s k c.
-          let a = crosses-at cs legal (upper cs t) (lower cs t) s (legal t h) c in
-          let b = crosses-at cs legal (upper cs t) (lower cs t) t (legal t h) (record { within = h; above = refl; below = refl }) in
-          omega arith),
-      crossed-apart t (omega arith))
+        let a = crosses-at cs legal (upper cs t) (lower cs t) s (legal t h) c in
+        let b = crosses-at cs legal (upper cs t) (lower cs t) t (legal t h) (record { within = h; above = refl; below = refl }) in
+        omega arith),
+    crossed-apart t (omega arith),
+  )
 
   -- as many crossings as pairs swap every pair
   pub all-cross : length cs ≡ pairs-of n → (i j : ℕ) → i < j → j < n → crossing cs i j < length cs
   all-cross long i j x y =
       elim (decLt (crossing cs i j) (length cs)) [
-        yes h ↦ h
-      | no h ↦
-          let l = length cs in
-          let many = few (pairs n) (place2 n i j ∷ crossed l)
-              (not-crossed i j x y l (omega arith)
-                (λ s k c. let e = crosses-at cs legal i j s x c in omega arith),
-              crossed-apart l (omega arith))
-              (place2-below n i j x y, crossed-below l (omega arith)) in
-          absurd (omega (arith, crossed-long l, pairs-is n)) ]
+        | yes h ↦ h
+        | no h ↦
+            let l = length cs in
+            let many = few (pairs n) (place2 n i j ∷ crossed l) (
+              not-crossed i j x y l (omega arith)
+                  (λ s k c. let e = crosses-at cs legal i j s x c in omega arith),
+              crossed-apart l (omega arith),
+            )
+            (place2-below n i j x y, crossed-below l (omega arith)) in
+            absurd (omega (arith, crossed-long l, pairs-is n))
+      ]
 
 pub crosses-once : Crosses-once
-crosses-once n cs net i j x y =
-    (crossing cs i j, crossing-is cs i j (all-cross n cs (net .range) (net .legal) (net .long) i j x y),
-      λ s c. crosses-at cs (net .legal) i j s x c)
+crosses-once n cs net i j x y = (
+  crossing cs i j,
+  crossing-is cs i j (all-cross n cs (net .range) (net .legal) (net .long) i j x y),
+  λ s c. crosses-at cs (net .legal) i j s x c,
+)
 
 not-below : (a b : ℕ) → (a < b → ⊥) → b ≤ a
 not-below a b h = elim (decLt a b) [ yes k ↦ absurd (h k) | no k ↦ omega arith ]
@@ -101,7 +107,7 @@ data Tells (x y z : ℕ) : Bool → Type 0 where
 
 -- three crossings of each of the four threes of four wires
 steady-from : {ij ik il jk jl kl : ℕ} {a b c d : Bool} →
-  Tells ij jk ik a → Tells ij jl il b → Tells ik kl il c → Tells jk kl jl d → T (steady a b c d)
+    Tells ij jk ik a → Tells ij jl il b → Tells ik kl il c → Tells jk kl jl d → T (steady a b c d)
 steady-from (left a a′ a″) (left b b′ b″) (left c c′ c″) (left d d′ d″) = tt
 steady-from (left a a′ a″) (left b b′ b″) (left c c′ c″) (right d d′ d″) = tt
 steady-from (left a a′ a″) (left b b′ b″) (right c c′ c″) (left d d′ d″) = absurd (omega arith)
@@ -126,8 +132,9 @@ module _ (cs : List ℕ) (legal : (t : ℕ) → t < length cs → Legal cs t) wh
       go : (a b c : ℕ) → (c < a → c < b → ⊥) → (a < c → b < c → ⊥) → Tells a b c (ltb a b)
       go a b c low high =
           elim (decLt a b) [
-            yes h ↦ rw (lt-ltb a b h) (left h (not-below c a (λ u. low u (omega arith))) (not-below b c (λ u. high (omega arith) u)))
-          | no h ↦ rw (le-ltb a b (omega arith)) (right (omega arith) (not-below c b (λ u. low (omega arith) u)) (not-below a c (λ u. high u (omega arith)))) ]
+            | yes h ↦ rw (lt-ltb a b h) (left h (not-below c a (λ u. low u (omega arith))) (not-below b c (λ u. high (omega arith) u)))
+            | no h ↦ rw (le-ltb a b (omega arith)) (right (omega arith) (not-below c b (λ u. low (omega arith) u)) (not-below a c (λ u. high u (omega arith))))
+          ]
 
   pub network-steady : (n : ℕ) → Steady n (crossing-turns cs)
   network-steady n i j k l x y z w =
@@ -142,16 +149,21 @@ networks-lawful n cs limit net = network-lawful n cs limit (net .legal)
 pub turns-by-crossings : Turns-by-crossings
 turns-by-crossings n cs net i j k x y z =
     let ij = all-cross n cs (net .range) (net .legal) (net .long) i j x (omega arith) in
-    let jk = all-cross n cs (net .range) (net .legal) (net .long) j k y z in
-    (λ l.
-      (crossing cs i j, crossing cs j k, crossing-is cs i j ij, crossing-is cs j k jk,
-        ltb→lt (crossing cs i j) (crossing cs j k) (subst T (pqr (crossing-turns cs) x y) (l .turns))),
-    λ h.
-      let a = crosses-at cs (net .legal) i j (h .0) x (h .2) in
-      let b = crosses-at cs (net .legal) j k (h .1) y (h .3) in
-      let c : crossing cs i j < crossing cs j k = omega (arith, h .4) in
-      left-of (crossing-turns cs) (omega arith) (omega arith) z
-      (subst T (sym (pqr (crossing-turns cs) x y)) (rw (lt-ltb (crossing cs i j) (crossing cs j k) c) tt)))
+    let jk = all-cross n cs (net .range) (net .legal) (net .long) j k y z in (
+      λ l. (
+        crossing cs i j,
+        crossing cs j k,
+        crossing-is cs i j ij,
+        crossing-is cs j k jk,
+        ltb→lt (crossing cs i j) (crossing cs j k) (subst T (pqr (crossing-turns cs) x y) (l .turns)),
+      ),
+      λ h.
+          let a = crosses-at cs (net .legal) i j (h .0) x (h .2) in
+          let b = crosses-at cs (net .legal) j k (h .1) y (h .3) in
+          let c : crossing cs i j < crossing cs j k = omega (arith, h .4) in
+          left-of (crossing-turns cs) (omega arith) (omega arith) z
+          (subst T (sym (pqr (crossing-turns cs) x y)) (rw (lt-ltb (crossing cs i j) (crossing cs j k) c) tt)),
+    )
 
 pub network-lawful-few : (n : ℕ) (cs : List ℕ) → n ≤ 32 → ((t : ℕ) → t < length cs → Legal cs t) → Lawful (network n cs)
 network-lawful-few n cs few legal = network-lawful n cs (omega arith) legal

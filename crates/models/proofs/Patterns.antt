@@ -31,13 +31,14 @@ module _ (g : Turns) (n : ℕ) (law : Lawful (system n g)) where
 -- the tests of laws 4 and 5, and the record of the laws
 module _ (g : Turns) (n : ℕ) (limit : n ≤ 128) where
   pub lawful-tested : T (keeps n (spread g)) ↔ Lawful (system n g)
-  lawful-tested =
-      (λ t. lawful-by g n limit
+  lawful-tested = (
+    λ t. lawful-by g n limit
         (interior n (spread g) (and-left (keeps4 n (spread g)) _ t))
         (transitive n (spread g) (and-right (keeps4 n (spread g)) _ t)),
-      λ law. and-both (keeps4 n (spread g)) _
+    λ law. and-both (keeps4 n (spread g)) _
         (interior-tested n (spread g) (interior-of g n law))
-        (transitive-tested n (spread g) (transitive-of g n law)))
+        (transitive-tested n (spread g) (transitive-of g n law)),
+  )
 
 pub table-lawful : (n : ℕ) (turns : List Bool) → n ≤ 24 → T (keeps n (spread (table-turns n turns))) → Lawful (table n turns)
 table-lawful n turns few kept = lawful-tested (table-turns n turns) n (omega arith) .0 kept
@@ -84,17 +85,18 @@ module _ (g : Turns) (n : ℕ) (xs : List ℕ) (rising : Rising xs) (below : Bel
   transitive-at law t s p q r ht hs hp hq hr v w x y z =
       down ht hp hr
       (law .transitive _ _ _ _ _ (mem-at xs t ht) (mem-at xs s hs) (mem-at xs p hp) (mem-at xs q hq) (mem-at xs r hr)
-        (up ht hs hp v) (up ht hs hq w) (up ht hs hr x) (up ht hp hq y) (up ht hq hr z))
+      (up ht hs hp v) (up ht hs hq w) (up ht hs hr x) (up ht hp hq y) (up ht hq hr z))
 
   among-by : Interior (length xs) (spread (through (at xs) g)) → Transitive (length xs) (spread (through (at xs) g)) → Lawful-among (system n g) xs
   among-by fourth fifth = record {
     interior = λ t p q r mt mp mq mr x y z.
-      left-of g (below p mp) (below q mq) (below r mr)
-      (interior-in g xs rising (placed t xs mt) (placed p xs mp) (placed q xs mq) (placed r xs mr) fourth (x .turns) (y .turns) (z .turns));
+        left-of g (below p mp) (below q mq) (below r mr)
+        (interior-in g xs rising (placed t xs mt) (placed p xs mp) (placed q xs mq) (placed r xs mr) fourth (x .turns) (y .turns) (z .turns));
     transitive = λ t s p q r mt ms mp mq mr v w x y z.
-      left-of g (below t mt) (below p mp) (below r mr)
-      (transitive-in g xs rising (placed t xs mt) (placed s xs ms) (placed p xs mp) (placed q xs mq) (placed r xs mr) fifth
-        (v .turns) (w .turns) (x .turns) (y .turns) (z .turns)) }
+        left-of g (below t mt) (below p mp) (below r mr)
+        (transitive-in g xs rising (placed t xs mt) (placed s xs ms) (placed p xs mp) (placed q xs mq) (placed r xs mr) fifth
+        (v .turns) (w .turns) (x .turns) (y .turns) (z .turns));
+  }
 
 -- the turns of a pattern are the turns of its marks
 pattern-bits : (k : ℕ) (h : Turns) → bits (threes k) (value (each-three k h)) ≡ each-three k h
@@ -111,28 +113,30 @@ module _ (g : Turns) (n : ℕ) (k : ℕ) (limit : k ≤ 128) (xs : List ℕ) (gr
   pub among-pattern : Lawful-among (system n g) xs ↔ Lawful (system k (table-turns k (bits (threes k) (pattern k g xs))))
   among-pattern =
       let h : Turns = through (at xs) g in
-      let a : Agree k (table-turns k (bits (threes k) (pattern k g xs))) h = pattern-agree k h in
-      (λ law. lawful-by _ k limit
-        (interior-agree k h _ (agree-back k _ h a)
-          (subst (λ m. Interior m (spread h)) (group .long) (interior-at g n xs (group .rising) (group .below) law)))
-        (transitive-agree k h _ (agree-back k _ h a)
-          (subst (λ m. Transitive m (spread h)) (group .long) (transitive-at g n xs (group .rising) (group .below) law))),
-      λ law. among-by g n xs (group .rising) (group .below)
-        (subst (λ m. Interior m (spread h)) (sym (group .long)) (interior-agree k _ h a (interior-of _ k law)))
-        (subst (λ m. Transitive m (spread h)) (sym (group .long)) (transitive-agree k _ h a (transitive-of _ k law))))
+      let a : Agree k (table-turns k (bits (threes k) (pattern k g xs))) h = pattern-agree k h in (
+        λ law. lawful-by _ k limit
+            (interior-agree k h _ (agree-back k _ h a)
+            (subst (λ m. Interior m (spread h)) (group .long) (interior-at g n xs (group .rising) (group .below) law)))
+            (transitive-agree k h _ (agree-back k _ h a)
+            (subst (λ m. Transitive m (spread h)) (group .long) (transitive-at g n xs (group .rising) (group .below) law))),
+        λ law. among-by g n xs (group .rising) (group .below)
+            (subst (λ m. Interior m (spread h)) (sym (group .long)) (interior-agree k _ h a (interior-of _ k law)))
+            (subst (λ m. Transitive m (spread h)) (sym (group .long)) (transitive-agree k _ h a (transitive-of _ k law))),
+      )
 
 module _ (g : Turns) (n : ℕ) where
   -- a system is lawful where every four and every five of its marks are, and only there
   pub lawful-from : n ≤ 128 → All-lawful 4 (system n g) → All-lawful 5 (system n g) → Lawful (system n g)
   lawful-from limit fours fives = lawful-by g n limit
       (interior-by g n λ xs rising below long.
-        subst (λ m. Interior m (spread (through (at xs) g))) long
-        (interior-at g n xs rising below (fours xs (record { long = long; rising = rising; below = below }))))
+      subst (λ m. Interior m (spread (through (at xs) g))) long
+      (interior-at g n xs rising below (fours xs (record { long = long; rising = rising; below = below }))))
       (transitive-by g n λ xs rising below long.
-        subst (λ m. Transitive m (spread (through (at xs) g))) long
-        (transitive-at g n xs rising below (fives xs (record { long = long; rising = rising; below = below }))))
+      subst (λ m. Transitive m (spread (through (at xs) g))) long
+      (transitive-at g n xs rising below (fives xs (record { long = long; rising = rising; below = below }))))
 
   pub lawful-all : Lawful (system n g) → (k : ℕ) → All-lawful k (system n g)
   lawful-all law k xs group = record {
     interior = λ t p q r mt mp mq mr x y z. law .interior x y z;
-    transitive = λ t s p q r mt ms mp mq mr v w x y z. law .transitive v w x y z }
+    transitive = λ t s p q r mt ms mp mq mr v w x y z. law .transitive v w x y z;
+  }

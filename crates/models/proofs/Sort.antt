@@ -36,21 +36,24 @@ insert x [] rising new =
     record { list = x ∷ []; rising = (λ z m. elim m [ ], tt); long = refl; from = λ z m. m; into = λ z m. m }
 insert x (y ∷ ys) rising new =
     elim (decLt x y) [
-      yes h ↦ record {
+      | yes h ↦ record {
         list = x ∷ y ∷ ys;
         rising = (λ z m. elim m [ inl e ↦ omega arith | inr m′ ↦ omega (arith, rising .0 z m′) ], rising);
         long = refl;
         from = λ z m. m;
-        into = λ z m. m }
-    | no h ↦
-        let r = insert x ys (rising .1) (λ m. new (inr m)) in
-        let y<x : y < x = omega (arith, λ (e : x ≡ y). new (inl e)) in
-        record {
-          list = y ∷ r .list;
-          rising = (λ z m. elim (r .from z m) [ inl e ↦ omega arith | inr m′ ↦ rising .0 z m′ ], r .rising);
-          long = ap suc (r .long);
-          from = λ z m. elim m [ inl e ↦ inr (inl e) | inr m′ ↦ elim (r .from z m′) [ inl e ↦ inl e | inr k ↦ inr (inr k) ] ];
-          into = λ z m. elim m [ inl e ↦ inr (r .into z (inl e)) | inr m′ ↦ elim m′ [ inl e ↦ inl e | inr k ↦ inr (r .into z (inr k)) ] ] } ]
+        into = λ z m. m;
+      }
+      | no h ↦
+          let r = insert x ys (rising .1) (λ m. new (inr m)) in
+          let y<x : y < x = omega (arith, λ (e : x ≡ y). new (inl e)) in
+          record {
+            list = y ∷ r .list;
+            rising = (λ z m. elim (r .from z m) [ inl e ↦ omega arith | inr m′ ↦ rising .0 z m′ ], r .rising);
+            long = ap suc (r .long);
+            from = λ z m. elim m [ inl e ↦ inr (inl e) | inr m′ ↦ elim (r .from z m′) [ inl e ↦ inl e | inr k ↦ inr (inr k) ] ];
+            into = λ z m. elim m [ inl e ↦ inr (r .into z (inl e)) | inr m′ ↦ elim m′ [ inl e ↦ inl e | inr k ↦ inr (r .into z (inr k)) ] ];
+          }
+    ]
 
 pub sort : (xs : List ℕ) → Different xs → Sorted xs
 sort [] d = record { list = []; rising = tt; long = refl; from = λ z m. m; into = λ z m. m }
@@ -62,7 +65,8 @@ sort (x ∷ xs) d =
       rising = r .rising;
       long = r .long ∙ ap suc (s .long);
       from = λ z m. elim (r .from z m) [ inl e ↦ inl e | inr k ↦ inr (s .from z k) ];
-      into = λ z m. r .into z (elim m [ inl e ↦ inl e | inr k ↦ inr (s .into z k) ]) }
+      into = λ z m. r .into z (elim m [ inl e ↦ inl e | inr k ↦ inr (s .into z k) ]);
+    }
 
 -- the place of a mark in a list, and the mark at a place
 pub record Placed (z : ℕ) (xs : List ℕ) : Type 0 where

@@ -51,8 +51,9 @@ pub all-at : (n : ℕ) (f : ℕ → Bool) → T (all n f) → (k : ℕ) → k < 
 all-at zero f t k h = absurd (omega arith)
 all-at (suc n) f t k h =
     elim (ℕ-discrete k n) [
-      yes e ↦ subst (λ m. T (f m)) (sym e) (and-left (f n) (all n f) t)
-    | no e ↦ all-at n f (and-right (f n) (all n f) t) k (omega arith) ]
+      | yes e ↦ subst (λ m. T (f m)) (sym e) (and-left (f n) (all n f) t)
+      | no e ↦ all-at n f (and-right (f n) (all n f) t) k (omega arith)
+    ]
 
 pub all-of : (n : ℕ) (f : ℕ → Bool) → ((k : ℕ) → k < n → T (f k)) → T (all n f)
 all-of zero f h = tt
@@ -69,9 +70,9 @@ module _ (n : ℕ) (left : Turns) where
       all-of n _ λ p hp. all-of n _ λ q hq. all-of n _ λ r hr. or-of (left p q r) _ λ no. all-of n _ λ t ht.
       not-T (left t q r && left p t r && left p q t) λ xyz.
       no (law t p q r ht hp hq hr
-        (and-left (left t q r) _ (and-left (left t q r && left p t r) _ xyz))
-        (and-right (left t q r) _ (and-left (left t q r && left p t r) _ xyz))
-        (and-right (left t q r && left p t r) _ xyz))
+      (and-left (left t q r) _ (and-left (left t q r && left p t r) _ xyz))
+      (and-right (left t q r) _ (and-left (left t q r && left p t r) _ xyz))
+      (and-right (left t q r && left p t r) _ xyz))
 
   pub transitive : T (keeps5 n left) → Transitive n left
   transitive test t s p q r ht hs hp hq hr tsp tsq tsr tpq tqr =

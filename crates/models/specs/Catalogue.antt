@@ -58,15 +58,15 @@ all (suc n) f = let rest = all n f in f n && rest
 abbrev pub keeps4 : ℕ → Turns → Bool
 keeps4 n left =
     all n (λ p. all n (λ q. all n (λ r.
-      let inside = all n (λ t. not (left t q r && left p t r && left p q t)) in left p q r || inside)))
+    let inside = all n (λ t. not (left t q r && left p t r && left p q t)) in left p q r || inside)))
 
 abbrev pub keeps5 : ℕ → Turns → Bool
 keeps5 n left =
     all n (λ t. all n (λ s. all n (λ p.
-      let rest = all n (λ q.
-          let last = all n (λ r. not (left t s r && left t q r) || left t p r) in
-          not (left t s q && left t p q) || last) in
-      not (left t s p) || rest)))
+    let rest = all n (λ q.
+    let last = all n (λ r. not (left t s r && left t q r) || left t p r) in
+    not (left t s q && left t p q) || last) in
+    not (left t s p) || rest)))
 
 abbrev pub keeps : ℕ → Turns → Bool
 keeps n left = keeps4 n left && keeps5 n left

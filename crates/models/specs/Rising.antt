@@ -35,11 +35,11 @@ pub record Group (k n : ℕ) (xs : List ℕ) : Type 0 where
 -- laws 4 and 5 hold of the marks of a list, in every order
 pub record Lawful-among (m : Meaning) (xs : List ℕ) : Type 0 where
   pub interior :
-    (t p q r : ℕ) → Mem t xs → Mem p xs → Mem q xs → Mem r xs →
-    Left m t q r → Left m p t r → Left m p q t → Left m p q r
+      (t p q r : ℕ) → Mem t xs → Mem p xs → Mem q xs → Mem r xs →
+      Left m t q r → Left m p t r → Left m p q t → Left m p q r
   pub transitive :
-    (t s p q r : ℕ) → Mem t xs → Mem s xs → Mem p xs → Mem q xs → Mem r xs →
-    Left m t s p → Left m t s q → Left m t s r → Left m t p q → Left m t q r → Left m t p r
+      (t s p q r : ℕ) → Mem t xs → Mem s xs → Mem p xs → Mem q xs → Mem r xs →
+      Left m t s p → Left m t s q → Left m t s r → Left m t p q → Left m t q r → Left m t p r
 
 -- they do so of every k marks
 abbrev pub All-lawful : ℕ → Meaning → Type 0

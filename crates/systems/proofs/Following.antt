@@ -40,7 +40,7 @@ module _ (n : ℕ) (cs : List ℕ) (t : ℕ) (ws : List ℕ) (long : n ≤ lengt
   stand-more p h =
       subst (λ s. getD (swap ws (getD cs t 0)) p 0 ≡ wire cs s p) (sym (add-one t))
       (swap-at ws (getD cs t 0) (moved (getD cs t 0) p) (omega arith) ∙
-        stand (across (getD cs t 0) p) (stays-in (moved (getD cs t 0) p) range h))
+      stand (across (getD cs t 0) p) (stays-in (moved (getD cs t 0) p) range h))
 
   -- the two wires that are swapped
   pub upper-is : getD ws (getD cs t 0) 0 ≡ upper cs t
@@ -57,25 +57,26 @@ abbrev pub Noted : ℕ → List ℕ → ℕ → List ℕ → Type 0
 Noted n cs t times = (i j : ℕ) → i < j → j < n → crossing cs i j < t → getD times (32 * i + j) 0 ≡ crossing cs i j
 
 module _ (n : ℕ) (cs : List ℕ) (t : ℕ) (times : List ℕ) (u l : ℕ) (is-upper : u ≡ upper cs t) (is-lower : l ≡ lower cs t)
-  (few : n ≤ 32) (within : t < length cs) (rises : u < l) (below : l < n) (long : length times ≡ 1024)
-  (legal : (s : ℕ) → s < length cs → Legal cs s) (noted : Noted n cs t times) where
+    (few : n ≤ 32) (within : t < length cs) (rises : u < l) (below : l < n) (long : length times ≡ 1024)
+    (legal : (s : ℕ) → s < length cs → Legal cs s) (noted : Noted n cs t times) where
   here : Cross cs u l t
   here = record { within = within; above = sym is-upper; below = sym is-lower }
 
   pub noted-more : Noted n cs (t + 1) (set times (32 * u + l) t)
   noted-more i j x y h =
       elim (ℕ-discrete (crossing cs i j) t) [
-        yes e ↦
-          let c = crossing-is cs i j (omega arith) in
-          let a : i ≡ u = sym (c .above) ∙ ap (upper cs) e ∙ sym is-upper in
-          let b : j ≡ l = sym (c .below) ∙ ap (lower cs) e ∙ sym is-lower in
-          let lt : 32 * u + l < length times = omega arith in
-          let same : 32 * i + j ≡ 32 * u + l = omega arith in
-          subst (λ k. getD (set times (32 * u + l) t) k 0 ≡ crossing cs i j) (sym same) (getD-set-same times (32 * u + l) t 0 lt ∙ sym e)
-      | no e ↦
-          let ne : 32 * i + j ≢ 32 * u + l = λ q.
-              let a : i ≡ u = omega arith in
-              let b : j ≡ l = omega arith in
-              let z = crosses-at cs legal u l t rises here in
-              e (ap (crossing cs i) b ∙ ap (λ i. crossing cs i l) a ∙ sym z) in
-          getD-set-other times (32 * u + l) (32 * i + j) t 0 ne ∙ noted i j x y (omega arith) ]
+        | yes e ↦
+            let c = crossing-is cs i j (omega arith) in
+            let a : i ≡ u = sym (c .above) ∙ ap (upper cs) e ∙ sym is-upper in
+            let b : j ≡ l = sym (c .below) ∙ ap (lower cs) e ∙ sym is-lower in
+            let lt : 32 * u + l < length times = omega arith in
+            let same : 32 * i + j ≡ 32 * u + l = omega arith in
+            subst (λ k. getD (set times (32 * u + l) t) k 0 ≡ crossing cs i j) (sym same) (getD-set-same times (32 * u + l) t 0 lt ∙ sym e)
+        | no e ↦
+            let ne : 32 * i + j ≢ 32 * u + l = λ q.
+            let a : i ≡ u = omega arith in
+            let b : j ≡ l = omega arith in
+            let z = crosses-at cs legal u l t rises here in
+            e (ap (crossing cs i) b ∙ ap (λ i. crossing cs i l) a ∙ sym z) in
+            getD-set-other times (32 * u + l) (32 * i + j) t 0 ne ∙ noted i j x y (omega arith)
+      ]

@@ -33,7 +33,7 @@ module _ (n : ℕ) (turns : List Turn) where
   same-four a b c d a′ b′ c′ d′ e = cc
 
   same-five : (a b c d f a′ b′ c′ d′ f′ : ℕ) → a ∷ b ∷ c ∷ d ∷ f ∷ [] ≡ a′ ∷ b′ ∷ c′ ∷ d′ ∷ f′ ∷ [] →
-    LawlessFive a b c d f ≡ LawlessFive a′ b′ c′ d′ f′
+      LawlessFive a b c d f ≡ LawlessFive a′ b′ c′ d′ f′
   same-five a b c d f a′ b′ c′ d′ f′ e = cc
 
   one : {f f′ : Option Fault} → Judged n turns f → Judged n turns f′ → f ≡ f′

@@ -1,4 +1,4 @@
 pub mod Judging
-pub mod Told
+pub mod Lefts
 pub mod Refusing
 pub mod Following

@@ -19,10 +19,12 @@ use Rattle.systems.specs.Networks.{First-without, Judged, accepted, outsize, m
 same-first : (P : ℕ → Type 0) (n t t′ : ℕ) → First-without P n t → First-without P n t′ → t ≡ t′
 same-first P n t t′ x y =
     elim (decLt t t′) [
-      yes h ↦ absurd (x .fails (y .before t h))
-    | no h ↦ elim (decLt t′ t) [
-        yes k ↦ absurd (y .fails (x .before t′ k))
-      | no k ↦ omega arith ] ]
+      | yes h ↦ absurd (x .fails (y .before t h))
+      | no h ↦ elim (decLt t′ t) [
+        | yes k ↦ absurd (y .fails (x .before t′ k))
+        | no k ↦ omega arith
+      ]
+    ]
 
 none-first : (P : ℕ → Type 0) (n t : ℕ) → ((s : ℕ) → s < n → P s) → First-without P n t → ⊥
 none-first P n t all x = x .fails (all t (x .within))
@@ -65,17 +67,19 @@ pub one-judgement : One-judgement
 one-judgement n cs f f′ j j′ = one n cs j j′
 
 pub three-wires : Three-wires
-three-wires =
-    (record { three = omega arith; turns = tt },
-      record { three = omega arith; turns = λ t. t },
-      recrossed (lit≤ tt) refl (λ s h. below s h)
-        (record { within = lit≤ tt; fails = λ h. omega arith; before = λ s h. first-legal s h }))
+three-wires = (
+  record { three = omega arith; turns = tt },
+  record { three = omega arith; turns = λ t. t },
+  recrossed (lit≤ tt) refl (λ s h. below s h)
+      (record { within = lit≤ tt; fails = λ h. omega arith; before = λ s h. first-legal s h }),
+)
   where
     below : (s : ℕ) → s < 3 → In-range 3 (0 ∷ 0 ∷ 1 ∷ []) s
     below zero h = lit≤ tt
     below (suc zero) h = lit≤ tt
     below (suc (suc zero)) h = lit≤ tt
     below (suc (suc (suc s))) h = absurd (omega arith)
+
     first-legal : (s : ℕ) → s < 1 → Legal (0 ∷ 0 ∷ 1 ∷ []) s
     first-legal zero h = lit≤ tt
     first-legal (suc s) h = absurd (omega arith)

@@ -25,7 +25,7 @@ pub data Judged (n : ℕ) (cs : List ℕ) : Option Fault → Type 0 where
   miscounted : n ≤ 32 → length cs ≢ pairs-of n → Judged n cs (Some (Miscounted (length cs)))
   beyond : {t : ℕ} → n ≤ 32 → length cs ≡ pairs-of n → First-without (In-range n cs) (length cs) t → Judged n cs (Some (Outsize t))
   recrossed : {t : ℕ} → n ≤ 32 → length cs ≡ pairs-of n → ((s : ℕ) → s < length cs → In-range n cs s) →
-    First-without (Legal cs) (length cs) t → Judged n cs (Some (Recrossed t))
+      First-without (Legal cs) (length cs) t → Judged n cs (Some (Recrossed t))
 
 -- an array of 32 rows of 32 has, in row i at j, the entry at which wires i and j cross
 abbrev pub Timed : ℕ → List ℕ → List ℕ → Type 0

@@ -29,9 +29,9 @@ pub data Judged (n : ℕ) (turns : List Turn) : Option Fault → Type 0 where
   outsize : 24 < n → Judged n turns (Some (Outsize 24))
   miscounted : n ≤ 24 → length turns ≢ threes-of n → Judged n turns (Some (Miscounted (length turns)))
   lawless-four : {a b c d : ℕ} → Fits n turns → First-lawless 4 (turn-table n turns) (a ∷ b ∷ c ∷ d ∷ []) →
-    Judged n turns (Some (LawlessFour a b c d))
+      Judged n turns (Some (LawlessFour a b c d))
   lawless-five : {a b c d e : ℕ} → Fits n turns → All-lawful 4 (turn-table n turns) →
-    First-lawless 5 (turn-table n turns) (a ∷ b ∷ c ∷ d ∷ e ∷ []) → Judged n turns (Some (LawlessFive a b c d e))
+      First-lawless 5 (turn-table n turns) (a ∷ b ∷ c ∷ d ∷ e ∷ []) → Judged n turns (Some (LawlessFive a b c d e))
 
 -- what an opened table holds: all of its list, or nothing
 abbrev pub Holds : {E : Type 0} → ℕ → List E → ℕ → List E → Option Fault → Type 0

@@ -15,11 +15,11 @@ ghost use Rattle.models.specs.Networks.{upper, lower, In-range, Legal, Network,
 ghost use Rattle.models.proofs.Networked.{network-lawful-few};
 ghost use Rattle.systems.specs.Tables.{Holds};
 ghost use Rattle.systems.specs.Networks.{First-without, Judged, Timed, One-judgement, Three-wires};
+use super::counts::pairs;
+use super::orders::in_order;
 use cc::CcSystem;
 use cc::Turn;
 use cc::faults::Fault;
-use super::counts::pairs;
-use super::orders::in_order;
 
 // The first crossing that has not both its places among n wires.
 fn beyond(n: usize, crossings: &[usize]) -> Option<usize>
@@ -113,14 +113,24 @@ impl<'a> ReflectionNetwork<'a> {
             Ok(times) => times,
             Err(fault) => return ReflectionNetwork::refused(crossings, fault),
         };
-        ReflectionNetwork { count, crossings, times, fault: None }
+        ReflectionNetwork {
+            count,
+            crossings,
+            times,
+            fault: None,
+        }
     }
 
     fn refused(crossings: &'a [usize], fault: Fault) -> ReflectionNetwork<'a>
         ensures fault { λ w. ⌜ w .fault ≡ Some fault ⌝ }
         ensures empty { λ w. ⌜ (w .count ≡ 0) × (w .crossings .now ≡ []) ⌝ }
     {
-        ReflectionNetwork { count: 0, crossings: &crossings[0..0], times: [0u16; 1024], fault: Some(fault) }
+        ReflectionNetwork {
+            count: 0,
+            crossings: &crossings[0..0],
+            times: [0u16; 1024],
+            fault: Some(fault),
+        }
     }
 
     // Why the network was refused, if it was.
@@ -190,11 +200,24 @@ mod tests {
     #[test]
     fn refusals() -> Result<(), Fail> {
         let crossings = [0, 0, 1];
-        check_eq(ReflectionNetwork::open(3, &crossings).fault(), Some(Fault::Recrossed(1)))?;
-        check_eq(ReflectionNetwork::open(4, &crossings).fault(), Some(Fault::Miscounted(3)))?;
-        check_eq(ReflectionNetwork::open(33, &crossings).fault(), Some(Fault::Outsize(32)))?;
+        check_eq(
+            ReflectionNetwork::open(3, &crossings).fault(),
+            Some(Fault::Recrossed(1)),
+        )?;
+        check_eq(
+            ReflectionNetwork::open(4, &crossings).fault(),
+            Some(Fault::Miscounted(3)),
+        )?;
+        check_eq(
+            ReflectionNetwork::open(33, &crossings).fault(),
+            Some(Fault::Outsize(32)),
+        )?;
         let crossings = [0, 1, 2];
-        check_eq(ReflectionNetwork::open(3, &crossings).fault(), Some(Fault::Outsize(2)))?;
-        check_eq(ReflectionNetwork::open(1, &[]).fault(), None)
+        check_eq(
+            ReflectionNetwork::open(3, &crossings).fault(),
+            Some(Fault::Outsize(2)),
+        )?;
+        let crossings: [usize; 0] = [];
+        check_eq(ReflectionNetwork::open(1, &crossings).fault(), None)
     }
 }

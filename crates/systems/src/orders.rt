@@ -23,7 +23,11 @@ impl Order {
     pub fn turn(&self, left: bool) -> Turn
         ensures turn { λ t. ⌜ is-left t ≡ cond (now (self .entry) .same) left (not left) ⌝ }
     {
-        if left == self.same { Turn::Left } else { Turn::Right }
+        if left == self.same {
+            Turn::Left
+        } else {
+            Turn::Right
+        }
     }
 }
 
@@ -43,17 +47,47 @@ fn sorted(n: usize, p: usize, q: usize, r: usize) -> Order
 {
     if p < q {
         if q < r {
-            Order { low: p, mid: q, high: r, same: true }
+            Order {
+                low: p,
+                mid: q,
+                high: r,
+                same: true,
+            }
         } else if p < r {
-            Order { low: p, mid: r, high: q, same: false }
+            Order {
+                low: p,
+                mid: r,
+                high: q,
+                same: false,
+            }
         } else {
-            Order { low: r, mid: p, high: q, same: true }
+            Order {
+                low: r,
+                mid: p,
+                high: q,
+                same: true,
+            }
         }
     } else if p < r {
-        Order { low: q, mid: p, high: r, same: false }
+        Order {
+            low: q,
+            mid: p,
+            high: r,
+            same: false,
+        }
     } else if q < r {
-        Order { low: q, mid: r, high: p, same: true }
+        Order {
+            low: q,
+            mid: r,
+            high: p,
+            same: true,
+        }
     } else {
-        Order { low: r, mid: q, high: p, same: false }
+        Order {
+            low: r,
+            mid: q,
+            high: p,
+            same: false,
+        }
     }
 }

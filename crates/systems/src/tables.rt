@@ -18,14 +18,14 @@ ghost use Rattle.models.specs.Catalogue.{keeps, pattern};
 ghost use Rattle.models.proofs.Patterns.{table-lawful};
 ghost use Rattle.systems.specs.Orders.{is-left};
 ghost use Rattle.systems.specs.Tables.{turn-table, Fits, Judged, Holds, One-judgement, Entries-rise};
+use super::counts::pairs;
+use super::counts::threes;
+use super::orders::in_order;
 use cc::CcSystem;
 use cc::Turn;
 use cc::faults::Fault;
 use models::catalogue::is_lawful_five;
 use models::catalogue::is_lawful_four;
-use super::counts::pairs;
-use super::counts::threes;
-use super::orders::in_order;
 
 // The entry of i < j < k among the threes of n marks in rising order.
 fn entry(n: usize, i: usize, j: usize, k: usize) -> usize
@@ -167,9 +167,17 @@ impl<'a> TurnTable<'a> {
         ensures holds { λ t. ⌜ Holds count (now (turns .entry)) (t .count) (t .turns .now) (t .fault) ⌝ }
     {
         if let Some(fault) = fault_of(count, turns) {
-            return TurnTable { count: 0, turns: &turns[0..0], fault: Some(fault) };
+            return TurnTable {
+                count: 0,
+                turns: &turns[0..0],
+                fault: Some(fault),
+            };
         }
-        TurnTable { count, turns, fault: None }
+        TurnTable {
+            count,
+            turns,
+            fault: None,
+        }
     }
 
     // Why the table was refused, if it was.
@@ -247,7 +255,13 @@ mod tests {
         check_eq(table.turn(2, 0, 1), Some(Turn::Left))?;
         check_eq(table.turn(1, 0, 2), Some(Turn::Right))?;
         check_eq(table.turn(0, 1, 3), None)?;
-        check_eq(TurnTable::open(4, &turns).fault(), Some(Fault::Miscounted(1)))?;
-        check_eq(TurnTable::open(25, &turns).fault(), Some(Fault::Outsize(24)))
+        check_eq(
+            TurnTable::open(4, &turns).fault(),
+            Some(Fault::Miscounted(1)),
+        )?;
+        check_eq(
+            TurnTable::open(25, &turns).fault(),
+            Some(Fault::Outsize(24)),
+        )
     }
 }

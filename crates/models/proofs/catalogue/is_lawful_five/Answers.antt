@@ -13,6 +13,7 @@ use Rattle.models.proofs.catalogue.is_lawful_five.Needs as need
 pub returns : need.returns
 returns c = record {
   lawful =
-    subst (λ (b : Bool). T b ↔ ((c .args .pattern < 1024) × Lawful (five (c .args .pattern)))) (sym (c .is-ok .ensures .value))
-    (searched-catalogue (c .catalogue .result .now) (c .catalogue .ensures .catalogue) (c .args .pattern) (c .binary-search .result)
-      (c .binary-search .ensures .located unsigned)) }
+      subst (λ (b : Bool). T b ↔ ((c .args .pattern < 1024) × Lawful (five (c .args .pattern)))) (sym (c .is-ok .ensures .value))
+      (searched-catalogue (c .catalogue .result .now) (c .catalogue .ensures .catalogue) (c .args .pattern) (c .binary-search .result)
+      (c .binary-search .ensures .located unsigned));
+}

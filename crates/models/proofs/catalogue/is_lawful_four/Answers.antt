@@ -16,6 +16,8 @@ returns c =
     let not-5 : c .args .pattern ≢ 5 = omega arith in
     let not-10 : c .args .pattern ≢ 10 = omega arith in
     record {
-      lawful =
-        (λ t. let below = ltb→lt (c .args .pattern) 16 t in (below, fours (c .args .pattern) below .0 (not-5, not-10)),
-        λ h. subst T (sym (lt-ltb (c .args .pattern) 16 (h .0))) tt) }
+      lawful = (
+        λ t. let below = ltb→lt (c .args .pattern) 16 t in (below, fours (c .args .pattern) below .0 (not-5, not-10)),
+        λ h. subst T (sym (lt-ltb (c .args .pattern) 16 (h .0))) tt,
+      );
+    }

@@ -11,4 +11,4 @@ Inv-loop-t l =
     ((p : ℕ) → p < l .n → getD (l .wires) p 0 ≡ wire (l .crossings) (l .t) p) ×
     ((s : ℕ) → s < l .t → Legal (l .crossings) s) ×
     (((s : ℕ) → s < length (l .crossings) → Legal (l .crossings) s) →
-      (i j : ℕ) → i < j → j < l .n → crossing (l .crossings) i j < l .t → getD (l .times) (32 * i + j) 0 ≡ crossing (l .crossings) i j)
+    (i j : ℕ) → i < j → j < l .n → crossing (l .crossings) i j < l .t → getD (l .times) (32 * i + j) 0 ≡ crossing (l .crossings) i j)

@@ -18,11 +18,13 @@ returns-in-Some c = record { judged = lawless-four (record { few = c .if-n-gt24 
 
 pub returns-in-Some-lawless-five : need.returns-in-Some-lawless-five
 returns-in-Some-lawless-five c = record {
-  judged = lawless-five (record { few = c .if-n-gt24 .left; long = omega arith }) (c .in-rest .ensures tt .first) (c .in-Some-lawless-five .ensures tt .first) }
+  judged = lawless-five (record { few = c .if-n-gt24 .left; long = omega arith }) (c .in-rest .ensures tt .first) (c .in-Some-lawless-five .ensures tt .first);
+}
 
 pub returns : need.returns
 returns c = record {
   judged =
-    accepted (record { few = c .if-n-gt24 .left; long = omega arith })
-    (lawful-from (table-turns (c .args .n) (map is-left (c .args .turns .now))) (c .args .n) (omega arith)
-      (c .in-rest .ensures tt .first) (c .in-rest-lawless-five .ensures tt .first)) }
+      accepted (record { few = c .if-n-gt24 .left; long = omega arith })
+      (lawful-from (table-turns (c .args .n) (map is-left (c .args .turns .now))) (c .args .n) (omega arith)
+      (c .in-rest .ensures tt .first) (c .in-rest-lawless-five .ensures tt .first));
+}

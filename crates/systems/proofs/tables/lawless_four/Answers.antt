@@ -10,10 +10,10 @@ use Rattle.systems.proofs.tables.lawless_four.Needs as need
 
 pub loop-d-again : need.loop-d-again
 loop-d-again c = below-more _ _ (c .loop-d .inv) (λ x.
-      four-among (table-turns (c .args .n) (map is-left (c .args .turns .now))) (c .args .n)
-        (c .loop-a .a) (c .loop-b .b) (c .loop-c .c) (c .loop-d .d) (c .four-pattern .result)
-        (omega arith) (omega arith) (omega arith) (omega arith) (c .four-pattern .ensures .value) .1
-      (c .if-not-is-lawful-four .ensures tt .lawful .0 tt .1))
+    four-among (table-turns (c .args .n) (map is-left (c .args .turns .now))) (c .args .n)
+    (c .loop-a .a) (c .loop-b .b) (c .loop-c .c) (c .loop-d .d) (c .four-pattern .result)
+    (omega arith) (omega arith) (omega arith) (omega arith) (c .four-pattern .ensures .value) .1
+    (c .if-not-is-lawful-four .ensures tt .lawful .0 tt .1))
 
 pub loop-c-again : need.loop-c-again
 loop-c-again c = below-more _ _ (c .loop-c .inv) (λ _ k h. c .loop-d .inv k (omega arith))
@@ -27,14 +27,16 @@ loop-a-again c = below-more _ _ (c .loop-a .inv) (λ k h. c .loop-b .inv k (omeg
 pub returns-then-not-is-lawful-four : need.returns-then-not-is-lawful-four
 returns-then-not-is-lawful-four c = record {
   first =
-    first-four (turn-table (c .args .n) (c .args .turns .now)) (c .loop-a .a) (c .loop-b .b) (c .loop-c .c) (c .loop-d .d)
-      (c .loop-a .inv) (c .loop-b .inv) (c .loop-c .inv) (c .loop-d .inv) (omega arith) (omega arith) (omega arith) (omega arith) 
+      first-four (turn-table (c .args .n) (c .args .turns .now)) (c .loop-a .a) (c .loop-b .b) (c .loop-c .c) (c .loop-d .d)
+      (c .loop-a .inv) (c .loop-b .inv) (c .loop-c .inv) (c .loop-d .inv) (omega arith) (omega arith) (omega arith) (omega arith)
       (λ among.
-        c .if-not-is-lawful-four .ensures tt .lawful .1
-        (omega (arith, c .four-pattern .ensures .bound),
-          four-among (table-turns (c .args .n) (map is-left (c .args .turns .now))) (c .args .n)
+      c .if-not-is-lawful-four .ensures tt .lawful .1 (
+        omega (arith, c .four-pattern .ensures .bound),
+        four-among (table-turns (c .args .n) (map is-left (c .args .turns .now))) (c .args .n)
             (c .loop-a .a) (c .loop-b .b) (c .loop-c .c) (c .loop-d .d) (c .four-pattern .result)
-            (omega arith) (omega arith) (omega arith) (omega arith) (c .four-pattern .ensures .value) .0 among)) }
+            (omega arith) (omega arith) (omega arith) (omega arith) (c .four-pattern .ensures .value) .0 among,
+      ));
+}
 
 pub returns : need.returns
 returns c = record { first = every-four (turn-table (c .args .n) (c .args .turns .now)) (λ k h. c .loop-a .inv k (omega arith)) }

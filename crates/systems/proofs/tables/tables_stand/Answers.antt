@@ -5,4 +5,5 @@ use Rattle.systems.proofs.tables.tables_stand.Needs as need
 pub returns : need.returns
 returns c = record {
   one = one-judgement;
-  entries = λ n i j k i′ j′ k′ few a b d a′ b′ d′. (entry-below n i j k a b d few, three-rises n i j k i′ j′ k′ a b d a′ b′ d′) }
+  entries = λ n i j k i′ j′ k′ few a b d a′ b′ d′. (entry-below n i j k a b d few, three-rises n i j k i′ j′ k′ a b d a′ b′ d′);
+}

@@ -9,7 +9,7 @@ use Rattle.cc.specs.declared.Turn.the-variants.{Left as to-left}
 use Rattle.models.specs.Threes.{table-turns}
 use Rattle.models.proofs.Entries.{entry-below}
 use Rattle.systems.specs.Orders.{is-left}
-use Rattle.systems.proofs.Told.{left-at}
+use Rattle.systems.proofs.Lefts.{left-at}
 use Rattle.systems.proofs.tables.turns_left.Needs as need
 use Rattle.systems.proofs.tables.turns_left.Needs.{After-entry}
 

@@ -16,7 +16,8 @@ returns-in-Err c =
     record {
       judged = judged;
       network = accepts n cs (w .fault) judged;
-      holds = subst (Holds n cs (w .count) (w .crossings .now)) (sym (c .refused .ensures .fault)) (c .refused .ensures .empty) }
+      holds = subst (Holds n cs (w .count) (w .crossings .now)) (sym (c .refused .ensures .fault)) (c .refused .ensures .empty);
+    }
 
 pub ghost-result : need.ghost-result
 ghost-result c =
@@ -30,4 +31,5 @@ returns c =
     record {
       judged = h .0;
       network = accepts (c .args .count) (c .args .crossings .now) _ (h .0);
-      holds = (refl, refl) }
+      holds = (refl, refl);
+    }

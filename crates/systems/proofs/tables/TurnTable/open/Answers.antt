@@ -7,7 +7,8 @@ pub returns-in-Some : need.returns-in-Some
 returns-in-Some c = record {
   judged = c .in-Some .ensures tt .judged;
   lawful = accepts (c .args .count) (c .args .turns .now) _ (c .in-Some .ensures tt .judged);
-  holds = (refl, refl) }
+  holds = (refl, refl);
+}
 
 pub ghost-result-2 : need.ghost-result-2
 ghost-result-2 c =
@@ -18,4 +19,5 @@ pub returns : need.returns
 returns c = record {
   judged = c .in-rest .ensures tt .judged;
   lawful = accepts (c .args .count) (c .args .turns .now) _ (c .in-rest .ensures tt .judged);
-  holds = (refl, refl) }
+  holds = (refl, refl);
+}
