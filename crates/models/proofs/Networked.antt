@@ -95,6 +95,7 @@ crosses-once n cs net i j x y = (
   crossing cs i j,
   crossing-is cs i j (all-cross n cs (net .range) (net .legal) (net .long) i j x y),
   λ s c. crosses-at cs (net .legal) i j s x c,
+  λ s c. omega (arith, net .legal s (c .within), c .above, c .below),
 )
 
 not-below : (a b : ℕ) → (a < b → ⊥) → b ≤ a

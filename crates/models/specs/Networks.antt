@@ -64,11 +64,11 @@ crossing-turns cs i j k = ltb (crossing cs i j) (crossing cs j k)
 abbrev pub network : ℕ → List ℕ → Meaning
 network n cs = system n (crossing-turns cs)
 
--- every two wires of a network cross exactly once, the one with the smaller number from above
+-- every two wires of a network cross exactly once: the one with the smaller number from above, and never the other
 abbrev pub Crosses-once : Type 0
 Crosses-once =
     (n : ℕ) (cs : List ℕ) → Network n cs → (i j : ℕ) → i < j → j < n →
-    (t : ℕ) × Cross cs i j t × ((s : ℕ) → Cross cs i j s → s ≡ t)
+    (t : ℕ) × Cross cs i j t × ((s : ℕ) → Cross cs i j s → s ≡ t) × ((s : ℕ) → Cross cs j i s → ⊥)
 
 -- three wires turn left exactly where the first two cross before the last two
 abbrev pub Turns-by-crossings : Type 0

@@ -1,3 +1,4 @@
 pub mod Orders
+pub mod Opened
 pub mod Tables
 pub mod Networks

@@ -33,11 +33,6 @@ pub data Judged (n : ℕ) (turns : List Turn) : Option Fault → Type 0 where
   lawless-five : {a b c d e : ℕ} → Fits n turns → All-lawful 4 (turn-table n turns) →
       First-lawless 5 (turn-table n turns) (a ∷ b ∷ c ∷ d ∷ e ∷ []) → Judged n turns (Some (LawlessFive a b c d e))
 
--- what an opened table holds: all of its list, or nothing
-abbrev pub Holds : {E : Type 0} → ℕ → List E → ℕ → List E → Option Fault → Type 0
-Holds n list count held None = (count ≡ n) × (held ≡ list)
-Holds n list count held (Some f) = (count ≡ 0) × (held ≡ [])
-
 -- a table has one fault only, or none
 abbrev pub One-judgement : Type 0
 One-judgement = (n : ℕ) (turns : List Turn) (f f′ : Option Fault) → Judged n turns f → Judged n turns f′ → f ≡ f′

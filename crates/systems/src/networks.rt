@@ -13,7 +13,7 @@ ghost use Rattle.std.specs.declared.result.Result.the-variants.{Ok, Err};
 ghost use Rattle.models.specs.Threes.{pairs-of};
 ghost use Rattle.models.specs.Networks.{upper, lower, In-range, Legal, Network, network, crossing};
 ghost use Rattle.models.proofs.Networked.{network-lawful-few};
-ghost use Rattle.systems.specs.Tables.{Holds};
+ghost use Rattle.systems.specs.Opened.{Holds};
 ghost use Rattle.systems.specs.Networks.{First-without, Judged, Timed, One-judgement, Three-wires};
 use super::counts::pairs;
 use super::orders::in_order;
@@ -68,15 +68,25 @@ fn crossing_times(n: usize, crossings: &[usize]) -> Result<[u16; 1024], usize>
     Ok(times)
 }
 
+// Why a list has not the length of a network of n wires, if it has not.
+fn misfit(n: usize, crossings: &[usize]) -> Option<Fault>
+    ensures fits { λ r. ⌜ BySome r ((n ≤ 32) × (length (now (crossings .entry)) ≡ pairs-of n)) (λ f. Judged n (now (crossings .entry)) (Some f)) ⌝ }
+{
+    if n > 32 {
+        return Some(Fault::Outsize(32));
+    }
+    if crossings.len() != pairs(n) {
+        return Some(Fault::Miscounted(crossings.len()));
+    }
+    None
+}
+
 // The times of a network of n wires, or why the crossings are none.
 fn times_of(n: usize, crossings: &[usize]) -> Result<[u16; 1024], Fault>
     ensures judged { λ r. ⌜ Cases r (λ times. Judged n (now (crossings .entry)) None × (length times ≡ 1024) × Timed n (now (crossings .entry)) times) (λ f. Judged n (now (crossings .entry)) (Some f)) ⌝ }
 {
-    if n > 32 {
-        return Err(Fault::Outsize(32));
-    }
-    if crossings.len() != pairs(n) {
-        return Err(Fault::Miscounted(crossings.len()));
+    if let Some(fault) = misfit(n, crossings) {
+        return Err(fault);
     }
     if let Some(t) = beyond(n, crossings) {
         return Err(Fault::Outsize(t));

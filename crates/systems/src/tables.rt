@@ -17,7 +17,8 @@ ghost use Rattle.models.specs.Rising.{All-lawful, First-lawless};
 ghost use Rattle.models.specs.Catalogue.{keeps, pattern};
 ghost use Rattle.models.proofs.Patterns.{table-lawful};
 ghost use Rattle.systems.specs.Orders.{is-left};
-ghost use Rattle.systems.specs.Tables.{turn-table, Fits, Judged, Holds, One-judgement, Entries-rise};
+ghost use Rattle.systems.specs.Opened.{Holds};
+ghost use Rattle.systems.specs.Tables.{turn-table, Fits, Judged, One-judgement, Entries-rise};
 use super::counts::pairs;
 use super::counts::threes;
 use super::orders::in_order;
@@ -128,15 +129,25 @@ fn lawless_five(n: usize, turns: &[Turn]) -> Option<(usize, usize, usize, usize,
     None
 }
 
-// Why a list is no table of n marks, if it is none.
-fn fault_of(n: usize, turns: &[Turn]) -> Option<Fault>
-    ensures judged { λ f. ⌜ Judged n (now (turns .entry)) f ⌝ }
+// Why a list has not the length of a table of n marks, if it has not.
+fn misfit(n: usize, turns: &[Turn]) -> Option<Fault>
+    ensures fits { λ r. ⌜ BySome r (Fits n (now (turns .entry))) (λ f. Judged n (now (turns .entry)) (Some f)) ⌝ }
 {
     if n > 24 {
         return Some(Fault::Outsize(24));
     }
     if turns.len() != threes(n) {
         return Some(Fault::Miscounted(turns.len()));
+    }
+    None
+}
+
+// Why a list is no table of n marks, if it is none.
+fn fault_of(n: usize, turns: &[Turn]) -> Option<Fault>
+    ensures judged { λ f. ⌜ Judged n (now (turns .entry)) f ⌝ }
+{
+    if let Some(fault) = misfit(n, turns) {
+        return Some(fault);
     }
     if let Some((a, b, c, d)) = lawless_four(n, turns) {
         return Some(Fault::LawlessFour(a, b, c, d));
@@ -167,16 +178,23 @@ impl<'a> TurnTable<'a> {
         ensures holds { λ t. ⌜ Holds count (now (turns .entry)) (t .count) (t .turns .now) (t .fault) ⌝ }
     {
         if let Some(fault) = fault_of(count, turns) {
-            return TurnTable {
-                count: 0,
-                turns: &turns[0..0],
-                fault: Some(fault),
-            };
+            return TurnTable::refused(turns, fault);
         }
         TurnTable {
             count,
             turns,
             fault: None,
+        }
+    }
+
+    fn refused(turns: &'a [Turn], fault: Fault) -> TurnTable<'a>
+        ensures fault { λ t. ⌜ t .fault ≡ Some fault ⌝ }
+        ensures empty { λ t. ⌜ (t .count ≡ 0) × (t .turns .now ≡ []) ⌝ }
+    {
+        TurnTable {
+            count: 0,
+            turns: &turns[0..0],
+            fault: Some(fault),
         }
     }
 

@@ -2,7 +2,7 @@
 use mathlib.Core.Path.{refl, sym, subst}
 use lib.Dec.{T}
 use borrow.Author.Tests.{eq-eqb}
-use Rattle.systems.specs.Tables.{Holds}
+use Rattle.systems.specs.Opened.{Holds}
 use Rattle.systems.specs.Networks.{Judged}
 use Rattle.systems.proofs.Refusing.{accepts}
 use Rattle.systems.proofs.networks.ReflectionNetwork.open.Needs as need
