@@ -3,17 +3,17 @@ use mathlib.Core.Path.{_≡_, refl, sym, _∙_, ap, subst}
 use mathlib.Core.Logic.{_≢_, _⊎_, inl, inr}
 use mathlib.Core.Bool.{Bool, true, false, not}
 use mathlib.Core.List.{List, [], _∷_}
-use Prim.Native.Nat.{ℕ, zero, suc, _<_, _≤_}
+use Prim.Native.Nat.{ℕ, _<_, _≤_}
 use native.Mathlib.Omega.{arith}
 use lib.Dec.{T, T-not}
-use lib.ListN.{length, getD}
-use Rattle.laws.specs.Systems.{Meaning, Three, Left, Lawful}
+use lib.ListN.{length}
+use Rattle.laws.specs.Systems.{Three, Left, Lawful}
 use Rattle.models.specs.Spread.{Turns, spread, system}
 use Rattle.models.specs.Rising.{Mem, Rising, Below}
 use Rattle.models.specs.Catalogue.{at, through}
 use Rattle.models.proofs.Spread.{Orders, o-pqr, o-prq, o-qpr, o-qrp, o-rpq, o-rqp, orders, distinct, cycled, swapped, spread-through}
 use Rattle.models.proofs.Tests.{Interior, Transitive}
-use Rattle.models.proofs.Sort.{Different, Sorted, sort, Placed, placed, mem-at, rises}
+use Rattle.models.proofs.Sort.{Sorted, sort, Placed, placed, rises}
 
 -- three different numbers
 record Apart (p q r : ℕ) : Type 0 where

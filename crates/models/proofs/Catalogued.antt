@@ -1,8 +1,8 @@
 -- The list of the lawful patterns: what stands in it, that it rises, and what a search of it answers.
 use mathlib.Core.Path.{_≡_, refl, sym, _∙_, ap, subst}
-use mathlib.Core.Logic.{_≢_, _↔_, _⊎_, inl, inr}
+use mathlib.Core.Logic.{_≢_, _↔_, inl, inr}
 use mathlib.Core.Bool.{Bool, true, false, not, _&&_, Bool·beq}
-use mathlib.Core.List.{List, [], _∷_}
+use mathlib.Core.List.{List, _∷_}
 use Prim.Native.Nat.{ℕ, zero, suc, _+_, _<_, _≤_}
 use native.Mathlib.Decide.{ℕ-discrete, decLt}
 use native.Mathlib.Nat.{le-of-eq, le-of-lt}
@@ -18,7 +18,7 @@ use lib.Dec.{T, eqb}
 use lib.ListN.{length, getD}
 use Rattle.laws.specs.Systems.{Lawful}
 use Rattle.models.specs.Rising.{Mem, Rising}
-use Rattle.models.specs.Catalogue.{four, five, all, lawful-four, lawful-five, those, Catalogued, Fours}
+use Rattle.models.specs.Catalogue.{five, all, lawful-four, lawful-five, those, Catalogued, Fours}
 use Rattle.models.proofs.Tests.{all-at}
 use Rattle.models.proofs.Sort.{mem-at, rises, placed}
 use Rattle.models.proofs.Patterns.{four-tested, five-tested}

@@ -1,16 +1,16 @@
 -- Where the wires of a network stand, when two of them cross, and that every two do.
 use mathlib.Core.Path.{_≡_, refl, sym, _∙_, ap, subst}
-use mathlib.Core.Logic.{_≢_, _⊎_, inl, inr}
+use mathlib.Core.Logic.{_≢_}
 use mathlib.Core.Bool.{Bool, true, false, cond, _&&_}
-use mathlib.Core.List.{List, [], _∷_}
-use Prim.Native.Nat.{ℕ, zero, suc, _+_, _<_, _≤_}
+use mathlib.Core.List.{List}
+use Prim.Native.Nat.{ℕ, zero, suc, _<_, _≤_}
 use native.Mathlib.Omega.{arith}
 use native.Mathlib.Decide.{ℕ-discrete, decLt}
 use lib.Dec.{T, eqb, eqb→eq}
 use lib.ListN.{length, getD}
 use borrow.Author.Tests.{eq-eqb, ne-eqb}
 use Rattle.models.specs.Networks.{across, wire, upper, lower, Cross, In-range, Legal, first, crossing}
-use Rattle.models.proofs.Tests.{and-left, and-right, and-both}
+use Rattle.models.proofs.Tests.{and-left, and-right}
 
 -- what a crossing does to a place
 pub data Across (k p : ℕ) : ℕ → Type 0 where
@@ -41,7 +41,7 @@ both (still x x′) (still y y′) = refl
 pub twice : (k p : ℕ) → across k (across k p) ≡ p
 twice k p = both (moved k p) (moved k (across k p))
 
-stays-in : {k p m n : ℕ} → Across k p m → suc k < n → p < n → m < n
+pub stays-in : {k p m n : ℕ} → Across k p m → suc k < n → p < n → m < n
 stays-in (down x) h i = omega arith
 stays-in (up x) h i = omega arith
 stays-in (still x x′) h i = i

@@ -8,7 +8,7 @@ use lib.Dec.{lit≤}
 use lib.ListN.{length}
 use Rattle.laws.specs.Systems.{Meaning, Lawful}
 use Rattle.models.specs.Spread.{Turns, system}
-use Rattle.models.specs.Rising.{Mem, Rising, Before, Group, Lawful-among, All-lawful, First-lawless}
+use Rattle.models.specs.Rising.{Before, Group, Lawful-among, All-lawful, First-lawless}
 use Rattle.models.specs.Catalogue.{four, five, pattern}
 use Rattle.models.proofs.Patterns.{among-pattern}
 use Rattle.models.proofs.Spread.{Compared, less, same, more, compared}

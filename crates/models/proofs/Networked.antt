@@ -1,9 +1,9 @@
 -- In a network every two wires cross once, and the order of the crossings keeps the laws.
-use mathlib.Core.Path.{_≡_, refl, sym, _∙_, ap, subst}
-use mathlib.Core.Logic.{_≢_, _⊎_, _↔_, inl, inr}
+use mathlib.Core.Path.{_≡_, refl, sym, ap, subst}
+use mathlib.Core.Logic.{_≢_}
 use mathlib.Core.Bool.{Bool, true, false}
 use mathlib.Core.List.{List, [], _∷_}
-use Prim.Native.Nat.{ℕ, zero, suc, _+_, _<_, _≤_}
+use Prim.Native.Nat.{ℕ, zero, suc, _<_, _≤_}
 use native.Mathlib.Omega.{arith}
 use native.Mathlib.Decide.{decLt}
 use borrow.Author.Tests.{lt-ltb, le-ltb}
@@ -11,17 +11,16 @@ use lib.Dec.{T, ltb, ltb→lt}
 use lib.ListN.{length, getD}
 use Rattle.std.specs.shelf.Lists.{All}
 use Rattle.laws.specs.Outlines.{Apart}
-use Rattle.laws.specs.Systems.{Left, Lawful}
+use Rattle.laws.specs.Systems.{Lawful}
 use Rattle.laws.proofs.Counts.{few}
-use Rattle.models.specs.Spread.{Turns, system}
 use Rattle.models.specs.Threes.{pairs, pairs-of, place2}
-use Rattle.models.specs.Networks.{wire, upper, lower, Cross, In-range, Legal, Network, crossing, crossing-turns, network, Crosses-once, Turns-by-crossings, Networks-lawful}
+use Rattle.models.specs.Networks.{upper, lower, Cross, In-range, Legal, crossing, crossing-turns, network, Crosses-once, Turns-by-crossings, Networks-lawful}
 use Rattle.models.proofs.Spread.{pqr}
 use Rattle.models.proofs.Carry.{left-of}
 use Rattle.models.proofs.Lists.{place2-below}
 use Rattle.models.proofs.Numbers.{pairs-is}
 use Rattle.models.proofs.Steady.{steady, Steady, steady-lawful}
-use Rattle.models.proofs.Crossings.{wire-in, crossing-is, crossing-at-most, crosses-at, between-low, between-high}
+use Rattle.models.proofs.Crossings.{wire-in, crossing-is, crosses-at, between-low, between-high}
 
 -- the entries of two rising pairs are different
 pairs-apart : (n i j i′ j′ : ℕ) → i < j → j < n → i′ < j′ → j′ < n → place2 n i j ≡ place2 n i′ j′ → (i ≡ i′) × (j ≡ j′)

@@ -1,7 +1,7 @@
 -- How many pairs and threes some marks have, by the formulas and by the first mark.
-use mathlib.Core.Path.{_≡_, refl, sym, _∙_, ap}
+use mathlib.Core.Path.{_≡_, refl, _∙_, ap}
 use mathlib.Core.Bool.{Bool, _&&_}
-use Prim.Native.Nat.{ℕ, zero, suc, _+_, _-_, _*_, _<_, _≤_}
+use Prim.Native.Nat.{ℕ, zero, suc, _+_, _-_, _*_, _≤_}
 use native.Mathlib.Nat.{mul-add, mul-comm}
 use native.Mathlib.Numerals.{sub-one}
 use native.Mathlib.Omega.{arith}

@@ -1,18 +1,18 @@
 -- A system given by its rising threes is lawful exactly where laws 4 and 5 hold among every four and every five of its marks,
 -- and they hold among some marks exactly where the pattern of those marks is lawful.
-use mathlib.Core.Path.{_≡_, refl, sym, _∙_, ap, subst}
-use mathlib.Core.Logic.{_↔_, _⊎_, inl, inr}
-use mathlib.Core.Bool.{Bool, true, false}
-use mathlib.Core.List.{List, [], _∷_}
-use Prim.Native.Nat.{ℕ, zero, suc, _+_, _<_, _≤_}
+use mathlib.Core.Path.{_≡_, sym, subst}
+use mathlib.Core.Logic.{_↔_}
+use mathlib.Core.Bool.{Bool}
+use mathlib.Core.List.{List}
+use Prim.Native.Nat.{ℕ, _<_, _≤_}
 use native.Mathlib.Omega.{arith}
 use lib.Dec.{T, lit≤}
 use lib.ListN.{length}
-use Rattle.laws.specs.Systems.{Meaning, Left, Lawful}
+use Rattle.laws.specs.Systems.{Left, Lawful}
 use Rattle.models.specs.Spread.{Turns, spread, system}
 use Rattle.models.specs.Threes.{table, table-turns, each-three, threes}
-use Rattle.models.specs.Rising.{Mem, Rising, Below, Group, Lawful-among, All-lawful}
-use Rattle.models.specs.Catalogue.{bits, value, four, five, keeps4, keeps5, keeps, lawful-four, lawful-five, at, through, pattern}
+use Rattle.models.specs.Rising.{Rising, Below, Group, Lawful-among, All-lawful}
+use Rattle.models.specs.Catalogue.{bits, value, four, five, keeps4, keeps, lawful-four, lawful-five, at, through, pattern}
 use Rattle.models.proofs.Spread.{Agree, spread-agree, spread-through}
 use Rattle.models.proofs.Tests.{Interior, Transitive, and-left, and-right, and-both, interior, interior-tested, transitive, transitive-tested}
 use Rattle.models.proofs.Sort.{mem-at, rises, placed}

@@ -1,20 +1,20 @@
 -- Turns of which the four of each rising i<j<k<l, ijk, ijl, ikl and jkl, change sign at most once are lawful.
-use mathlib.Core.Path.{_≡_, refl, sym, _∙_, ap, subst}
-use mathlib.Core.Bool.{Bool, true, false, not, cond, _&&_, _||_, Bool·beq}
-use mathlib.Core.List.{List, [], _∷_}
-use Prim.Native.Nat.{ℕ, zero, suc, _<_, _≤_}
+use mathlib.Core.Path.{subst}
+use mathlib.Core.Bool.{Bool, not, cond, _&&_, _||_, Bool·beq}
+use mathlib.Core.List.{List}
+use Prim.Native.Nat.{ℕ, _<_, _≤_}
 use native.Mathlib.Omega.{arith}
 use lib.Dec.{T, lit≤}
 use lib.ListN.{length}
 use Rattle.laws.specs.Systems.{Lawful}
 use Rattle.models.specs.Spread.{Turns, system}
 use Rattle.models.specs.Threes.{table-turns, each-three}
-use Rattle.models.specs.Catalogue.{bits, value, all, at, through, pattern, lawful-four, lawful-five}
-use Rattle.models.specs.Rising.{Rising, Below, Group, Lawful-among}
+use Rattle.models.specs.Catalogue.{bits, value, all, at, through, lawful-four, lawful-five}
+use Rattle.models.specs.Rising.{Rising, Below, Group}
 use Rattle.models.proofs.Spread.{Agree}
 use Rattle.models.proofs.Tests.{all-at, all-of, implies}
 use Rattle.models.proofs.Sort.{rises, mem-at}
-use Rattle.models.proofs.Lists.{value-below, length-three}
+use Rattle.models.proofs.Lists.{value-below}
 use Rattle.models.proofs.Patterns.{pattern-agree, agree-back, four-tested, five-tested, among-pattern, lawful-from}
 
 -- four turns change at most once

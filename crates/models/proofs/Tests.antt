@@ -1,12 +1,12 @@
 -- The tests of laws 4 and 5 pass exactly where the laws hold.
-use mathlib.Core.Path.{_≡_, refl, sym, ap, subst}
+use mathlib.Core.Path.{sym, subst}
 use mathlib.Core.Bool.{Bool, true, false, not, _&&_, _||_}
 use Prim.Native.Nat.{ℕ, zero, suc, _<_}
 use native.Mathlib.Omega.{arith}
 use native.Mathlib.Decide.{ℕ-discrete}
 use lib.Dec.{T, not-T, T-not}
 use Rattle.models.specs.Spread.{Turns}
-use Rattle.models.specs.Catalogue.{all, keeps4, keeps5, keeps}
+use Rattle.models.specs.Catalogue.{all, keeps4, keeps5}
 
 -- laws 4 and 5 over the marks below n
 abbrev pub Interior : ℕ → Turns → Type 0

@@ -3,7 +3,7 @@
 //! A pattern has one bit for each rising three of the marks, in rising order from the lowest bit on, and a one means left:
 //! of four marks 012, 013, 023, 123; of five 012, 013, 014, 023, 024, 034, 123, 124, 134, 234.
 
-ghost use mathlib.Core.Logic.{_↔_};
+ghost use mathlib.Core.Logic.{_↔_, _≢_};
 ghost use Prim.Native.Nat.{_<_};
 ghost use lib.Dec.{T};
 ghost use Rattle.laws.specs.Systems.{Lawful};
@@ -291,14 +291,18 @@ pub fn is_lawful_five(pattern: u16) -> bool
     catalogue().binary_search(&pattern).is_ok()
 }
 
+// Whether a number is a pattern of four marks, and neither 5 nor 10.
+fn is_neither_five_nor_ten(pattern: u16) -> bool
+    ensures neither { λ r. ⌜ T r ↔ ((pattern < 16) × (pattern ≢ 5) × (pattern ≢ 10)) ⌝ }
+{
+    pattern < 16 && pattern != 5 && pattern != 10
+}
+
 // Whether four marks that turn as the pattern says keep the laws.
 pub fn is_lawful_four(pattern: u16) -> bool
     ensures lawful { λ r. ⌜ T r ↔ ((pattern < 16) × Lawful (four pattern)) ⌝ }
 {
-    if pattern == 5 || pattern == 10 {
-        return false;
-    }
-    pattern < 16
+    is_neither_five_nor_ten(pattern)
 }
 
 // The theorem of the patterns of four marks, as a contract.

@@ -1,15 +1,15 @@
 -- One more crossing: the list of the wires, and the times of the pairs that have crossed.
-use mathlib.Core.Path.{_≡_, refl, sym, _∙_, ap, subst}
+use mathlib.Core.Path.{_≡_, sym, _∙_, ap, subst}
 use mathlib.Core.Logic.{_≢_}
 use mathlib.Core.List.{List}
-use Prim.Native.Nat.{ℕ, zero, suc, _+_, _*_, _<_, _≤_}
+use Prim.Native.Nat.{ℕ, suc, _+_, _*_, _<_, _≤_}
 use native.Mathlib.Numerals.{add-one}
 use native.Mathlib.Decide.{ℕ-discrete}
 use native.Mathlib.Omega.{arith}
 use lib.ListN.{length, getD, set, length-set}
 use lib.Seq.{getD-set-same, getD-set-other}
 use Rattle.models.specs.Networks.{across, wire, upper, lower, Cross, In-range, Legal, crossing}
-use Rattle.models.proofs.Crossings.{Across, down, up, still, moved, wire-in, crossing-is, crosses-at}
+use Rattle.models.proofs.Crossings.{Across, down, up, still, moved, stays-in, wire-in, crossing-is, crosses-at}
 
 -- the list after a crossing
 abbrev pub swap : List ℕ → ℕ → List ℕ
@@ -25,11 +25,6 @@ swap-at ws k (down x) h =
     rw (x, add-one, getD-set-other (set ws k (getD ws (suc k) 0)) (suc k) k (getD ws k 0) 0 ne, getD-set-same ws k (getD ws (suc k) 0) 0 i)
 swap-at ws k {p} (still x x′) h =
     rw (add-one, getD-set-other (set ws k (getD ws (suc k) 0)) (suc k) p (getD ws k 0) 0 x′, getD-set-other ws k p (getD ws (suc k) 0) 0 x)
-
-stays-in : {k p m n : ℕ} → Across k p m → suc k < n → p < n → m < n
-stays-in (down x) h i = omega arith
-stays-in (up x) h i = omega arith
-stays-in (still x x′) h i = i
 
 -- a list of the wires at each place
 abbrev pub Stand : ℕ → List ℕ → ℕ → List ℕ → Type 0

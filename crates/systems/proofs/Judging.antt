@@ -1,18 +1,17 @@
 -- A table has one fault only, and is accepted exactly where it is lawful.
-use mathlib.Core.Path.{_≡_, refl, sym, ap, subst}
-use mathlib.Core.Logic.{_≢_, _↔_}
+use mathlib.Core.Path.{_≡_, refl, ap, subst}
+use mathlib.Core.Logic.{_↔_}
 use mathlib.Core.List.{List, [], _∷_, map}
-use Prim.Native.Nat.{ℕ, _<_, _≤_}
+use Prim.Native.Nat.{ℕ}
 use native.Mathlib.Omega.{arith}
 use lib.Dec.{T}
-use lib.ListN.{length, getD}
 use Rattle.std.specs.declared.option.Option.{Option}
 use Rattle.std.specs.declared.option.Option.the-variants.{Some, None}
 use Rattle.cc.specs.declared.Turn.{Turn}
 use Rattle.cc.specs.declared.faults.Fault.{Fault}
-use Rattle.cc.specs.declared.faults.Fault.the-variants.{Outsize, Miscounted, LawlessFour, LawlessFive}
+use Rattle.cc.specs.declared.faults.Fault.the-variants.{LawlessFour, LawlessFive}
 use Rattle.laws.specs.Systems.{Lawful}
-use Rattle.models.specs.Threes.{table-turns, threes-of}
+use Rattle.models.specs.Threes.{table-turns}
 use Rattle.models.specs.Rising.{All-lawful, First-lawless}
 use Rattle.models.specs.Spread.{spread}
 use Rattle.models.specs.Catalogue.{keeps}

@@ -1,6 +1,6 @@
 -- A network has one fault only, and is accepted exactly where it is one.
-use mathlib.Core.Path.{_≡_, refl, sym, ap, subst}
-use mathlib.Core.Logic.{_≢_, _↔_}
+use mathlib.Core.Path.{_≡_, refl, ap, subst}
+use mathlib.Core.Logic.{_↔_}
 use mathlib.Core.List.{List, [], _∷_}
 use Prim.Native.Nat.{ℕ, zero, suc, _<_, _≤_}
 use native.Mathlib.Omega.{arith}
@@ -11,7 +11,6 @@ use Rattle.std.specs.declared.option.Option.{Option}
 use Rattle.std.specs.declared.option.Option.the-variants.{Some, None}
 use Rattle.cc.specs.declared.faults.Fault.{Fault}
 use Rattle.cc.specs.declared.faults.Fault.the-variants.{Outsize, Recrossed}
-use Rattle.models.specs.Threes.{pairs-of}
 use Rattle.models.specs.Networks.{In-range, Legal, Network}
 use Rattle.systems.specs.Networks.{First-without, Judged, accepted, outsize, miscounted, beyond, recrossed, One-judgement, Three-wires}
 

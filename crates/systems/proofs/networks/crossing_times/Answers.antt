@@ -1,10 +1,10 @@
 -- The crossing at t swaps two wires of which the upper has the smaller number, and its entry is noted for them.
-use mathlib.Core.Path.{_≡_, subst, sym, ap₂}
+use mathlib.Core.Path.{_≡_}
 use Prim.Native.Nat.{_+_, _<_}
 use native.Mathlib.Omega.{arith}
 use borrow.Author.Count.{below-more}
-use lib.ListN.{length, getD, length-set}
-use Rattle.models.specs.Networks.{Legal, upper, lower}
+use lib.ListN.{getD, length-set}
+use Rattle.models.specs.Networks.{upper, lower}
 use Rattle.models.proofs.Networked.{all-cross}
 use Rattle.systems.proofs.Following.{stand-more, upper-is, lower-is, lower-in, noted-more}
 use Rattle.systems.proofs.networks.crossing_times.Needs as need

@@ -1,8 +1,6 @@
 -- The entry, by the numbers of pairs and threes.
-use mathlib.Core.Path.{_≡_}
-use Prim.Native.Nat.{_+_, _-_}
+use Prim.Native.Nat.{_-_}
 use native.Mathlib.Omega.{arith}
-use Rattle.models.specs.Threes.{place3, pairs-of, threes-of}
 use Rattle.models.proofs.Entries.{entry-is}
 use Rattle.systems.proofs.tables.entry.Needs as need
 
