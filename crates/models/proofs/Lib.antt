@@ -4,3 +4,16 @@ pub mod Plane
 pub mod Firsts
 pub mod Star_laws
 pub mod Circles
+pub mod Tests
+pub mod Spread
+pub mod Sort
+pub mod Carry
+pub mod Lists
+pub mod Patterns
+pub mod Catalogued
+pub mod Steady
+pub mod Numbers
+pub mod Entries
+pub mod Crossings
+pub mod Networked
+pub mod Groups

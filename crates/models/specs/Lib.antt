@@ -2,3 +2,8 @@ pub mod Determinants
 pub mod Places
 pub mod Stars
 pub mod Circles
+pub mod Spread
+pub mod Threes
+pub mod Rising
+pub mod Catalogue
+pub mod Networks

@@ -1,8 +1,12 @@
 //! CC systems over a list that the caller lends: each is opened by a check of the whole list, and tells its fault where it is refused.
 
+mod counts;
 mod geometry;
+pub mod networks;
+pub mod orders;
 pub mod points;
 pub mod stars;
+pub mod tables;
 #[cfg(test)]
 mod tests;
 
