@@ -1,1 +1,2 @@
+mod Mirroring
 mod Naming

@@ -11,3 +11,7 @@ abbrev pub Told : Meaning → ℕ → ℕ → ℕ → Option Turn → Type 0
 Told m p q r None = Three (m .count) p q r → ⊥
 Told m p q r (Some to-left) = Left m p q r
 Told m p q r (Some to-right) = Right m p q r
+
+abbrev pub other-way : Turn → Turn
+other-way to-left = to-right
+other-way to-right = to-left

@@ -6,13 +6,25 @@ pub mod renamings;
 
 ghost use mathlib.Core.Path.{_≡_};
 ghost use Rattle.laws.specs.Systems.{Meaning, Lawful};
-ghost use Rattle.cc.specs.Turns.{Told};
+ghost use Rattle.cc.specs.Turns.{Told, other-way};
 
 // How three marks turn.
 #[derive(Clone, Copy, PartialEq, Eq, Debug)]
 pub enum Turn {
     Left,
     Right,
+}
+
+impl Turn {
+    // The other way.
+    pub fn reversed(self) -> Turn
+        ensures reversed { λ t. ⌜ t ≡ other-way self ⌝ }
+    {
+        match self {
+            Turn::Left => Turn::Right,
+            Turn::Right => Turn::Left,
+        }
+    }
 }
 
 // A set of marks, numbered from 0, that is known only by how any three of them turn.

@@ -39,9 +39,7 @@ pub impl<S: CcSystem> CcSystem for Mirror<S> as MirrorSystem {
     }
 
     fn turn(&self, p: usize, q: usize, r: usize) -> Option<Turn> {
-        match self.below.turn(p, q, r)? {
-            Turn::Left => Some(Turn::Right),
-            Turn::Right => Some(Turn::Left),
-        }
+        let turn = self.below.turn(p, q, r)?;
+        Some(turn.reversed())
     }
 }

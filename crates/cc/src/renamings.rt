@@ -4,13 +4,15 @@ ghost use mathlib.Core.Path.{_≡_};
 ghost use Prim.Native.Nat.{ℕ, _<_, _≤_};
 ghost use lib.Dec.{T};
 ghost use lib.ListN.{length, take};
+ghost use Rattle.std.specs.Options.{Cases as BySome};
 ghost use Rattle.std.specs.Orderings.{When};
 ghost use Rattle.std.specs.declared.option.Option.the-variants.{Some, None};
 ghost use Rattle.std.specs.declared.result.Result.the-variants.{Ok, Err};
 ghost use Rattle.laws.specs.Systems.{Same};
 ghost use Rattle.laws.specs.Layers.{named, unlike, past, renamed};
 ghost use Rattle.laws.proofs.Piles.{renamed-lawful};
-ghost use Rattle.cc.specs.Names.{Repeats, Judged};
+ghost use Rattle.laws.specs.First.{First, Never};
+ghost use Rattle.cc.specs.Names.{Repeats, Bad, Judged};
 use super::CcSystem;
 use super::Turn;
 use super::faults::Fault;
@@ -137,12 +139,30 @@ fn misnamed(count: usize, names: &[usize]) -> Option<Fault>
     if names.len() > LIMIT {
         return Some(Fault::Misnamed(LIMIT));
     }
+    match first_bad(count, names) {
+        Some(i) => Some(Fault::Misnamed(i)),
+        None => None,
+    }
+}
+
+// The first entry that is no mark of a system with `count` marks, or the same as an earlier one.
+fn first_bad(count: usize, names: &[usize]) -> Option<usize>
+    ensures first { λ o. ⌜ BySome o (Never (length (now (names .entry))) (Bad count (now (names .entry)))) (First (length (now (names .entry))) (Bad count (now (names .entry)))) ⌝ }
+{
     for i in 0..names.len() {
-        if names[i] >= count || repeats(names, i) {
-            return Some(Fault::Misnamed(i));
+        if is_bad(count, names, i) {
+            return Some(i);
         }
     }
     None
+}
+
+// Whether the i-th entry is bad.
+fn is_bad(count: usize, names: &[usize], i: usize) -> bool
+    requires within { ⌜ i < length (now names) ⌝ }
+    ensures bad { λ b. ⌜ When b (Bad count (now (names .entry)) i) (Bad count (now (names .entry)) i → ⊥) ⌝ }
+{
+    names[i] >= count || repeats(names, i)
 }
 
 // Whether an entry before the i-th is the same.

@@ -50,11 +50,8 @@ impl HullState {
         ensures marks { λ r. ⌜ Cases r (λ _. One-more (held (now (self .entry) .records)) x (held (now (self .exit) .records))) (λ _. now (self .exit) ≡ now (self .entry)) ⌝ }
         ensures sound { λ _. ⌜ Sound (S·CcSystem .meaning (now (system .entry))) (now (self .exit) .records) (listed (now (self .exit) .ring)) ⌝ }
     {
-        if x >= system.count() {
-            return Err(Fault::Stranger(x));
-        }
-        if self.records[x].is_in {
-            return Err(Fault::AlreadyIn(x));
+        if let Err(fault) = self.admits(system, x) {
+            return Err(fault);
         }
         let ring = self.ring.grow(system, x);
         let pushed_off = exchanged(&self.ring, &ring, x);
@@ -70,11 +67,8 @@ impl HullState {
         ensures marks { λ r. ⌜ Cases r (λ _. One-more (held (now (self .exit) .records)) x (held (now (self .entry) .records))) (λ _. now (self .exit) ≡ now (self .entry)) ⌝ }
         ensures sound { λ _. ⌜ Sound (S·CcSystem .meaning (now (system .entry))) (now (self .exit) .records) (listed (now (self .exit) .ring)) ⌝ }
     {
-        if x >= system.count() {
-            return Err(Fault::Stranger(x));
-        }
-        if !self.records[x].is_in {
-            return Err(Fault::Absent(x));
+        if let Err(fault) = self.holds(system, x) {
+            return Err(fault);
         }
         let old = self.ring;
         self.set_in(x, false);

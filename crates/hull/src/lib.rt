@@ -1,5 +1,6 @@
 //! A convex hull over any CC system that changes mark by mark.
 
+mod admitting;
 pub mod answers;
 mod changing;
 mod growing;

@@ -41,11 +41,8 @@ impl HullState {
         requires sound { ⌜ Sound (S·CcSystem .meaning (now system)) (now self .records) (listed (now self .ring)) ⌝ }
         ensures answers { λ r. ⌜ Answers (S·CcSystem .meaning (now (system .entry))) (held (now (self .entry) .records)) (place x) (placed-answer r) ⌝ }
     {
-        if x >= system.count() {
-            return Err(Fault::Stranger(x));
-        }
-        if !self.records[x].is_in {
-            return Err(Fault::Absent(x));
+        if let Err(fault) = self.holds(system, x) {
+            return Err(fault);
         }
         if let Some(i) = self.ring.position(x) {
             return Ok(Placed::Edge(i));
@@ -63,11 +60,8 @@ impl HullState {
         requires sound { ⌜ Sound (S·CcSystem .meaning (now system)) (now self .records) (listed (now self .ring)) ⌝ }
         ensures answers { λ r. ⌜ Answers (S·CcSystem .meaning (now (system .entry))) (held (now (self .entry) .records)) (neighbours x) (neighbours-answer r) ⌝ }
     {
-        if x >= system.count() {
-            return Err(Fault::Stranger(x));
-        }
-        if !self.records[x].is_in {
-            return Err(Fault::Absent(x));
+        if let Err(fault) = self.holds(system, x) {
+            return Err(fault);
         }
         let Some(_) = self.ring.position(x) else {
             return Err(Fault::OffTheEdge(x));

@@ -4,22 +4,21 @@ use Prim.Native.Nat.{ℕ, _<_}
 use native.Mathlib.Omega.{arith}
 use lib.Dec.{T}
 use Rattle.std.specs.declared.result.Result.the-variants.{Ok}
-use Rattle.runs.specs.Calls.{Answers, add, stranger, to-add, already-in}
+use Rattle.runs.specs.Calls.{Answers, add}
 use Rattle.hull.specs.Rings.{listed}
 use Rattle.hull.specs.Records.{held, with-held, Sound}
 use Rattle.hull.specs.Replies.{added-answer}
 use Rattle.runs.proofs.Decided.{more-marks}
 use Rattle.runs.proofs.SomeAnswer.{with-it}
+use Rattle.hull.proofs.Telling.{not-admitted}
 use Rattle.hull.proofs.Changes.{recorded, held-added, sound-added, adds-by}
 use Rattle.hull.proofs.records.HullState.add.Needs as need
 
-pub returns-then-x-count : need.returns-then-x-count
-returns-then-x-count g c = record { answers = stranger to-add (omega (arith, c .if-x-count .taken, c .count .ensures .marks)); marks = refl; sound = c .pre .sound }
-
-pub returns-then-self-x : need.returns-then-self-x
-returns-then-self-x g c =
+pub returns-in-Err : need.returns-in-Err
+returns-in-Err g c =
+    let m = g .S·CcSystem .meaning (c .args .system .now) in
     record {
-      answers = already-in (omega (arith, c .if-x-count .left, c .count .ensures .marks)) (subst T (sym (c .if-self-x .taken)) tt);
+      answers = not-admitted m (held (c .args .self .now .records)) (c .args .x) (c .in-Err .fault) (c .in-Err .ensures tt .admits);
       marks = refl;
       sound = c .pre .sound;
     }
@@ -30,8 +29,8 @@ settle-requires g c κs =
     let L = g .S·CcSystem .lawful (c .args .system .now) in
     let s = held (c .args .self .now .records) in
     let x = c .args .x in
-    let x-in : x < m .count = omega (arith, c .if-x-count .left, c .count .ensures .marks) in
-    let (t, one) = with-it s x (λ h. subst T (c .if-self-x .left) h) in
+    let x-in : x < m .count = c .in-rest .ensures tt .admits .0 in
+    let (t, one) = with-it s x (λ h. subst T (c .in-rest .ensures tt .admits .1) h) in
     record {
       recorded = recorded L (more-marks m one x-in (c .pre .sound .marks)) (c .grow-ring .ensures .grows s t (c .pre .sound .marks) (c .pre .sound .is-ring) one);
     }
@@ -44,10 +43,10 @@ returns g c =
     let new = c .settle .last .self in
     let ring = listed (c .grow-ring .result) in
     let x = c .args .x in
-    let x-in : x < m .count = omega (arith, c .if-x-count .left, c .count .ensures .marks) in
+    let x-in : x < m .count = c .in-rest .ensures tt .admits .0 in
     let same : (p : ℕ) → held (new .records) p ≡ held (with-held (old .records) x true) p =
     λ p. c .settle .ensures .marks p ∙ ap (λ rs. held rs p) (c .set-in .ensures .records) in
-    let one = held-added (old .records) (new .records) x (omega (arith, L .limit, old .long)) (c .if-self-x .left) same in
+    let one = held-added (old .records) (new .records) x (omega (arith, L .limit, old .long)) (c .in-rest .ensures tt .admits .1) same in
     let next = sound-added L (old .records) (new .records) x (listed (old .ring)) ring (c .pre .sound) x-in one (c .grow-ring .ensures .grows) (c .settle .ensures .links) in
     record {
       answers = subst (λ a. Answers m (held (old .records)) (add x) (added-answer (Ok a))) (sym (c .by .ensures .by))

@@ -1,21 +1,19 @@
 use mathlib.Core.Path.{sym, subst, subst₂}
-use native.Mathlib.Omega.{arith}
 use lib.Dec.{T}
-use Rattle.runs.specs.Calls.{Answers, neighbours, beside, stranger, to-neighbours, absent, of-neighbours, has-beside, off-the-edge}
+use Rattle.runs.specs.Calls.{Answers, neighbours, beside, to-neighbours, of-neighbours, has-beside, off-the-edge}
 use Rattle.runs.proofs.SomeAnswer.{before-on, after-on}
 use Rattle.hull.specs.Rings.{listed}
 use Rattle.hull.specs.Records.{held}
+use Rattle.hull.proofs.Telling.{not-held}
 use Rattle.hull.proofs.records.HullState.neighbours.Needs as need
 
-pub returns-then-x-count : need.returns-then-x-count
-returns-then-x-count g c = record { answers = stranger to-neighbours (omega (arith, c .if-x-count .taken, c .count .ensures .marks)) }
+pub returns-in-Err : need.returns-in-Err
+returns-in-Err g c =
+    let m = g .S·CcSystem .meaning (c .args .system .now) in
+    record { answers = not-held m (held (c .args .self .now .records)) (c .args .x) (c .in-Err .fault) to-neighbours of-neighbours (c .in-Err .ensures tt .holds) }
 
-pub returns-then-not-self-x : need.returns-then-not-self-x
-returns-then-not-self-x g c =
-    record { answers = absent of-neighbours (omega (arith, c .if-x-count .left, c .count .ensures .marks)) (λ h. subst T (c .if-not-self-x .taken) h) }
-
-pub returns-in-rest : need.returns-in-rest
-returns-in-rest g c = record { answers = off-the-edge (subst T (sym (c .if-not-self-x .left)) tt) (c .pre .sound .is-ring) (c .in-rest .ensures tt .place) }
+pub returns-in-rest-position : need.returns-in-rest-position
+returns-in-rest-position g c = record { answers = off-the-edge (subst T (sym (c .in-rest .ensures tt .holds .1)) tt) (c .pre .sound .is-ring) (c .in-rest-position .ensures tt .place) }
 
 pub returns : need.returns
 returns g c =

@@ -5,20 +5,19 @@ use native.Mathlib.Omega.{arith}
 use lib.Dec.{T}
 use Rattle.laws.specs.Outlines.{Marks}
 use Rattle.laws.specs.Theorems.{of}
-use Rattle.runs.specs.Calls.{Answers, Ring-of, drop, dropped, stranger, to-drop, absent, of-drop}
+use Rattle.runs.specs.Calls.{Answers, Ring-of, drop, dropped, to-drop, of-drop}
 use Rattle.runs.proofs.Decided.{less-marks}
 use Rattle.hull.specs.Rings.{listed}
 use Rattle.hull.specs.Records.{held, flagged, with-held, Sound}
+use Rattle.hull.proofs.Telling.{not-held}
 use Rattle.hull.proofs.Changes.{recorded, held-dropped, sound-dropped, drops-by}
 use Rattle.hull.proofs.records.HullState.remove.Needs as need
 
-pub returns-then-x-count : need.returns-then-x-count
-returns-then-x-count g c = record { answers = stranger to-drop (omega (arith, c .if-x-count .taken, c .count .ensures .marks)); marks = refl; sound = c .pre .sound }
-
-pub returns-then-not-self-x : need.returns-then-not-self-x
-returns-then-not-self-x g c =
+pub returns-in-Err : need.returns-in-Err
+returns-in-Err g c =
+    let m = g .S·CcSystem .meaning (c .args .system .now) in
     record {
-      answers = absent of-drop (omega (arith, c .if-x-count .left, c .count .ensures .marks)) (λ h. subst T (c .if-not-self-x .taken) h);
+      answers = not-held m (held (c .args .self .now .records)) (c .args .x) (c .in-Err .fault) to-drop of-drop (c .in-Err .ensures tt .holds);
       marks = refl;
       sound = c .pre .sound;
     }
@@ -29,7 +28,7 @@ outline-of-ring-requires g c κs =
     let L = g .S·CcSystem .lawful (c .args .system .now) in
     let old = c .args .self .now in
     let mid = c .set-in .last .self in
-    let one = held-dropped (old .records) (mid .records) (c .args .x) (omega (arith, c .if-x-count .left, c .count .ensures .marks, L .limit, old .long)) (c .if-not-self-x .left) (λ p. ap (λ rs. held rs p) (c .set-in .ensures .records)) in
+    let one = held-dropped (old .records) (mid .records) (c .args .x) (omega (arith, c .in-rest .ensures tt .holds .0, L .limit, old .long)) (c .in-rest .ensures tt .holds .1) (λ p. ap (λ rs. held rs p) (c .set-in .ensures .records)) in
     record { marks = subst (λ s. Marks m (of s)) (sym (fun-ext (c .flags-flags .ensures .flags))) (less-marks m one (c .pre .sound .marks)) }
 
 pub settle-requires : need.settle-requires
@@ -38,7 +37,7 @@ settle-requires g c κs =
     let L = g .S·CcSystem .lawful (c .args .system .now) in
     let old = c .args .self .now in
     let mid = c .set-in .last .self in
-    let one = held-dropped (old .records) (mid .records) (c .args .x) (omega (arith, c .if-x-count .left, c .count .ensures .marks, L .limit, old .long)) (c .if-not-self-x .left) (λ p. ap (λ rs. held rs p) (c .set-in .ensures .records)) in
+    let one = held-dropped (old .records) (mid .records) (c .args .x) (omega (arith, c .in-rest .ensures tt .holds .0, L .limit, old .long)) (c .in-rest .ensures tt .holds .1) (λ p. ap (λ rs. held rs p) (c .set-in .ensures .records)) in
     record { recorded = recorded L (less-marks m one (c .pre .sound .marks)) (subst (λ s. Ring-of m s (listed (c .outline-of-ring .result))) (fun-ext (c .flags-flags .ensures .flags)) (c .outline-of-ring .ensures .ring)) }
 
 pub returns : need.returns
@@ -49,10 +48,10 @@ returns g c =
     let new = c .settle .last .self in
     let ring = listed (c .outline-of-ring .result) in
     let x = c .args .x in
-    let x-in : x < m .count = omega (arith, c .if-x-count .left, c .count .ensures .marks) in
+    let x-in : x < m .count = c .in-rest .ensures tt .holds .0 in
     let same : (p : ℕ) → held (new .records) p ≡ held (with-held (old .records) x false) p =
     λ p. c .settle .ensures .marks p ∙ ap (λ rs. held rs p) (c .set-in .ensures .records) in
-    let one = held-dropped (old .records) (new .records) x (omega (arith, L .limit, old .long)) (c .if-not-self-x .left) same in
+    let one = held-dropped (old .records) (new .records) x (omega (arith, L .limit, old .long)) (c .in-rest .ensures tt .holds .1) same in
     let new-ring = subst (λ s. Ring-of m s ring) (fun-ext (λ p. c .flags-flags .ensures .flags p ∙ sym (c .settle .ensures .marks p))) (c .outline-of-ring .ensures .ring) in
     let next = sound-dropped (old .records) (new .records) x (listed (old .ring)) ring (c .pre .sound) one new-ring (c .settle .ensures .links) in
     record {
