@@ -9,6 +9,7 @@ ghost use Rattle.hull.specs.Replies.{placed-answer, neighbours-answer};
 use super::answers::Placed;
 use super::growing::lies_right;
 use super::records::HullState;
+use super::records::Record;
 use super::rings::Ring;
 use cc::CcSystem;
 use cc::faults::Fault;
@@ -32,6 +33,16 @@ impl Ring {
             }
         }
         (self.marks[low], self.marks[high])
+    }
+}
+
+impl Record {
+    // The mark before and the mark after.
+    fn neighbours(&self) -> (usize, usize)
+        ensures before { λ r. ⌜ r .0 ≡ now (self .entry) .before ⌝ }
+        ensures after { λ r. ⌜ r .1 ≡ now (self .entry) .after ⌝ }
+    {
+        (self.before, self.after)
     }
 }
 
@@ -66,7 +77,6 @@ impl HullState {
         let Some(_) = self.ring.position(x) else {
             return Err(Fault::OffTheEdge(x));
         };
-        let record = self.records[x];
-        Ok((record.before, record.after))
+        Ok(self.records[x].neighbours())
     }
 }

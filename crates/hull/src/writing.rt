@@ -39,12 +39,19 @@ impl HullState {
         word
     }
 
+    // The marks from 64 on, as bits.
+    fn high_word(&self) -> u64
+        ensures word { λ w. ⌜ w ≡ word-of (held (now (self .entry) .records)) 64 64 ⌝ }
+    {
+        self.word(64)
+    }
+
     // The marks that are in, as the bits of two words, and how many they are.
     pub(crate) fn census(&self) -> (u64, u64, usize)
         ensures census { λ r. ⌜ Census (held (now (self .entry) .records)) r ⌝ }
     {
         let low = self.word(0);
-        let high = self.word(64);
+        let high = self.high_word();
         (low, high, (low.count_ones() + high.count_ones()) as usize)
     }
 }

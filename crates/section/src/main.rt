@@ -29,7 +29,11 @@ const SECTION: [Place; 5] = [
 ];
 
 // The places in a row lie on one line.
-const ROW: [Place; 3] = [Place { x: 0, y: 0 }, Place { x: 1, y: 1 }, Place { x: 2, y: 2 }];
+const ROW: [Place; 3] = [
+    Place { x: 0, y: 0 },
+    Place { x: 1, y: 1 },
+    Place { x: 2, y: 2 },
+];
 
 // Adds the marks in rising order, drops one and adds it again, twice; then asks.
 fn history(heap: Global, dropped: usize, asked: usize) -> Result<Vec<Call>, AllocError> {
@@ -55,7 +59,11 @@ fn show_systems(rt: &LibcRuntime) -> Result<(), AnyError> {
     let renaming = Renaming::over(mirror, &[4, 3, 2]);
     show_turns(rt, "renaming", &renaming)?;
     show_fault(rt, "points", Points::open(&ROW).fault())?;
-    show_fault(rt, "renaming", Renaming::over(renaming.take_off(), &[0, 1, 0]).fault())
+    show_fault(
+        rt,
+        "renaming",
+        Renaming::over(renaming.take_off(), &[0, 1, 0]).fault(),
+    )
 }
 
 // A history on the section, and the same on its mirror under other names: mark i of it is mark 4 - i of the section.

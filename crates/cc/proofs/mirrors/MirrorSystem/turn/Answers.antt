@@ -10,5 +10,5 @@ returns g c =
     let s = c .args .self .now .below in
     record {
       told = subst (λ t. Told (mirrored (g .S·CcSystem .meaning s)) (c .args .p) (c .args .q) (c .args .r) (Some t)) (sym (c .reversed .ensures .reversed))
-          (mirror-told (g .S·CcSystem .lawful s) (c .args .p) (c .args .q) (c .args .r) (c .in-Continue-turn .turn) (c .in-Continue-turn .ensures tt .told))
+          (mirror-told (g .S·CcSystem .lawful s) (c .args .p) (c .args .q) (c .args .r) (c .in-Continue-turn .turn) (c .in-Continue-turn .ensures tt .told));
     }

@@ -11,16 +11,16 @@ use Rattle.hull.proofs.OfWords.{word-bit, word-ones, how-many-both}
 use Rattle.hull.proofs.records.HullState.census.Needs as need
 
 pub add-result : need.add-result
-add-result c = omega (arith, ones-le 64 (c .word-low .result) (c .word-low .ok), ones-le 64 (c .word-high .result) (c .word-high .ok))
+add-result c = omega (arith, ones-le 64 (c .word-low .result) (c .word-low .ok), ones-le 64 (c .high-word-high .result) (c .high-word-high .ok))
 
 pub cast-result : need.cast-result
-cast-result c = omega (arith, ones-le 64 (c .word-low .result) (c .word-low .ok), ones-le 64 (c .word-high .result) (c .word-high .ok))
+cast-result c = omega (arith, ones-le 64 (c .word-low .result) (c .word-low .ok), ones-le 64 (c .high-word-high .result) (c .high-word-high .ok))
 
 pub returns : need.returns
 returns c =
     let f : ℕ → Bool = held (c .args .self .now .records) in
     let low = c .word-low .ensures .word in
-    let high = c .word-high .ensures .word in
+    let high = c .high-word-high .ensures .word in
     record {
       census = record {
         low = λ k h. ap (λ w. bit w k) low ∙ word-bit f 0 64 k h ∙ ap f (zero-add k);

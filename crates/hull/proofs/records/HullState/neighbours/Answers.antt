@@ -1,4 +1,4 @@
-use mathlib.Core.Path.{sym, subst, subst₂}
+use mathlib.Core.Path.{sym, _∙_, subst, subst₂}
 use lib.Dec.{T}
 use Rattle.runs.specs.Calls.{Answers, neighbours, beside, to-neighbours, of-neighbours, has-beside, off-the-edge}
 use Rattle.runs.proofs.SomeAnswer.{before-on, after-on}
@@ -25,6 +25,6 @@ returns g c =
     let (a, f) = before-on ring x (_, lt, e) in
     let (b, f′) = after-on ring x (_, lt, e) in
     record {
-      answers = subst₂ (λ p q. Answers m (held (s .records)) (neighbours x) (beside p q)) (sym (c .pre .sound .links a x f .1)) (sym (c .pre .sound .links x b f′ .0))
+      answers = subst₂ (λ p q. Answers m (held (s .records)) (neighbours x) (beside p q)) (sym (c .neighbours .ensures .before ∙ c .pre .sound .links a x f .1)) (sym (c .neighbours .ensures .after ∙ c .pre .sound .links x b f′ .0))
           (has-beside (c .pre .sound .is-ring) f f′);
     }
