@@ -31,4 +31,4 @@ used (OffTheEdge _) = refl
 pub fault-numbers : (f : Fault) (n k : ℕ) (l : List ℕ) → n ≡ number f → k ≡ length (places f) → l ≡ five-places f → between 0 (k + 1) (six n l) ≡ number f ∷ places f
 fault-numbers f n k l p q r =
     subst (λ n. between 0 (k + 1) (six n l) ≡ number f ∷ places f) (sym p)
-        (subst (λ k. between 0 (k + 1) (six (number f) l) ≡ number f ∷ places f) (sym q) (subst (λ l. between 0 (length (places f) + 1) (six (number f) l) ≡ number f ∷ places f) (sym r) (used f)))
+    (subst (λ k. between 0 (k + 1) (six (number f) l) ≡ number f ∷ places f) (sym q) (subst (λ l. between 0 (length (places f) + 1) (six (number f) l) ≡ number f ∷ places f) (sym r) (used f)))

@@ -66,4 +66,4 @@ pub told-plainly : (k : Kind) (n : ℕ) (vs : List (Value k)) (m : Meaning) (rin
     → e ≡ [] → x ≡ e ++ (line (codes "kind" ++ 9 ∷ letter k ∷ []) (m .count ∷ []) ++ ring-line ring ++ round-lines rounds) → Told k n vs x
 told-plainly k n vs m ring rounds e x same many judged layered sections p q =
     told-by k n vs ring rounds [] x judged (subst (λ j. Layered j ring rounds) same layered) sections
-        (from-empty e x _ p q ∙ (ap (λ c. line (codes "kind" ++ 9 ∷ letter k ∷ []) (c ∷ []) ++ ring-line ring ++ round-lines rounds) many ∙ sym (append-nil _)))
+    (from-empty e x _ p q ∙ (ap (λ c. line (codes "kind" ++ 9 ∷ letter k ∷ []) (c ∷ []) ++ ring-line ring ++ round-lines rounds) many ∙ sym (append-nil _)))

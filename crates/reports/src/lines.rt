@@ -2,10 +2,11 @@
 
 ghost use mathlib.Core.Path.{_≡_};
 ghost use mathlib.Core.List.{_∷_, _++_};
+ghost use lib.Chars.{codes};
 ghost use Rattle.std.specs.Of.String.{string-bytes};
 ghost use Rattle.std.specs.Vec.{made};
 ghost use Rattle.std.specs.Written.{decimal};
-ghost use Rattle.reports.specs.Lines.{fields, line, fault-line, pair-lines, round-lines};
+ghost use Rattle.reports.specs.Lines.{fields, line, fault-line, pair-lines, round-lines, tape-line};
 use cc::faults::Fault;
 use std::alloc::AllocError;
 use std::alloc::Global;
@@ -86,5 +87,25 @@ pub(crate) fn write_pairs(
         let (p, q) = pairs[k];
         write_line(heap, out, "star", &[p, q])?;
     }
+    Ok(())
+}
+
+// Writes the refusal of a star.
+pub(crate) fn write_star_refusal(
+    heap: Global,
+    out: &mut String,
+    fault: Fault,
+) -> Result<(), AllocError>
+    ensures written { λ r. ⌜ made r (λ _. string-bytes (now (out .exit)) ≡ string-bytes (now (out .entry)) ++ fault-line (codes "star\tno") fault) ⌝ }
+{
+    write_fault(heap, out, "star\tno", fault)?;
+    Ok(())
+}
+
+// Writes the length of a tape.
+pub(crate) fn write_length(heap: Global, out: &mut String, total: u64) -> Result<(), AllocError>
+    ensures written { λ r. ⌜ made r (λ _. string-bytes (now (out .exit)) ≡ string-bytes (now (out .entry)) ++ tape-line total) ⌝ }
+{
+    write_line(heap, out, "tape", &[total as usize])?;
     Ok(())
 }

@@ -2,22 +2,23 @@
 
 ghost use mathlib.Core.Path.{_≡_};
 ghost use mathlib.Core.List.{[], _∷_, _++_};
-ghost use Prim.Native.Nat.{ℕ, _<_};
 ghost use lib.ListN.{length};
 ghost use Rattle.std.specs.Of.String.{string-bytes};
 ghost use Rattle.std.specs.Vec.{made};
 ghost use Rattle.models.specs.Places.{plane};
 ghost use Rattle.runs.specs.Calls.{Ring-of};
 ghost use Rattle.sheet.specs.declared.Kind.the-variants.{Points as points, Network as network, Table as table};
-ghost use Rattle.reports.specs.Lines.{line, ring-line, round-lines, tape-line};
+ghost use Rattle.reports.specs.Lines.{line, ring-line, round-lines};
 ghost use Rattle.reports.specs.Layers.{first, Layered, ring-in, rounds-in};
 ghost use Rattle.reports.specs.Reports.{Adds, Star-told, Tape-told, Told};
 use super::layering::layers_of;
 use super::layers::ConvexLayers;
 use super::lines::write_fault;
+use super::lines::write_length;
 use super::lines::write_line;
 use super::lines::write_pairs;
 use super::lines::write_rounds;
+use super::lines::write_star_refusal;
 use cc::CcSystem;
 use cc::Turn;
 use models::places::Place;
@@ -59,7 +60,7 @@ fn write_star(heap: Global, out: &mut String, points: &Points<'_>) -> Result<(),
     let mut pairs = [(0, 0); 128];
     match star(points, 0, &mut pairs) {
         Ok(n) => write_pairs(heap, out, &pairs[0..n])?,
-        Err(fault) => write_fault(heap, out, "star\tno", fault)?,
+        Err(fault) => write_star_refusal(heap, out, fault)?,
     }
     Ok(())
 }
@@ -77,7 +78,7 @@ fn write_tape(
     let Ok(total) = tape(points, ring) else {
         unreachable()
     };
-    write_line(heap, out, "tape", &[total as usize])?;
+    write_length(heap, out, total)?;
     Ok(())
 }
 

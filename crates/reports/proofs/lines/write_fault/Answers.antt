@@ -10,5 +10,5 @@ returns c =
     record {
       written = c .in-Continue-write-line .ensures tt .written
           ∙ ap (λ ns. string-bytes (c .args .out .now) ++ line (c .args .word .now) ns)
-              (fault-numbers (c .args .fault) (c .number .result) (c .places-used .result) (c .places .result) (c .number .ensures .number) (c .places-used .ensures .used) (c .places .ensures .five));
+          (fault-numbers (c .args .fault) (c .number .result) (c .places-used .result) (c .places .result) (c .number .ensures .number) (c .places-used .ensures .used) (c .places .ensures .five));
     }

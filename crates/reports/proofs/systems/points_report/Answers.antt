@@ -41,6 +41,6 @@ returns c =
     record {
       told = subst (λ k. Told Points (length k) k y) same
           (told-by Points (length q) q (ring-in l) (rounds-in l) (star ++ tape) y (subst (λ k. Judged k None) (sym same) (subst (Judged ps) none (c .open-points .ensures .judged)))
-              (c .in-Continue-layers .ensures tt .layered) (of-points star-told (subst (λ r. Tape-told q r tape) (front-part (l .len) (l .ring)) tape-told))
-              (two-writes e x y star tape star-is tape-is ∙ ap (λ k. k ++ (star ++ tape)) (from-empty _ _ _ (c .new-out .ensures .bytes) (c .in-Continue-layers .ensures tt .written))));
+          (c .in-Continue-layers .ensures tt .layered) (of-points star-told (subst (λ r. Tape-told q r tape) (front-part (l .len) (l .ring)) tape-told))
+          (two-writes e x y star tape star-is tape-is ∙ ap (λ k. k ++ (star ++ tape)) (from-empty _ _ _ (c .new-out .ensures .bytes) (c .in-Continue-layers .ensures tt .written))));
     }

@@ -23,10 +23,10 @@ returns-in-Continue-write-pairs c =
       told = (pair-lines (take n later), pairs (w .starred) (w .front), c .in-Continue-write-pairs .ensures tt .written ∙ ap (λ l. string-bytes (c .args .out .now) ++ pair-lines l) (front-part n later));
     }
 
-pub returns-in-Continue-write-fault : need.returns-in-Continue-write-fault
-returns-in-Continue-write-fault c =
+pub returns-in-Continue-write-star-refusal : need.returns-in-Continue-write-star-refusal
+returns-in-Continue-write-star-refusal c =
     let ps = c .args .points .now .places .now in
     let f = c .in-Err .fault in
     record {
-      told = (fault-line (codes "star\tno") f, refused f (omega (arith, c .count .ensures .marks, c .if-count-eq0 .left)) (star-fits ps 0 f (good ps (c .args .points .now .good) .few) (c .in-Err .ensures tt .answer .0)), c .in-Continue-write-fault .ensures tt .written);
+      told = (fault-line (codes "star\tno") f, refused f (omega (arith, c .count .ensures .marks, c .if-count-eq0 .left)) (star-fits ps 0 f (good ps (c .args .points .now .good) .few) (c .in-Err .ensures tt .answer .0)), c .in-Continue-write-star-refusal .ensures tt .written);
     }

@@ -10,4 +10,4 @@ unreachable-requires c κs =
     tape-fits (points .places .now) (c .args .ring .now) (c .in-rest .field-0) (lawful-plane (points .places .now) (points .good)) (c .pre .ring) (c .in-rest .ensures tt .answer)
 
 pub returns : need.returns
-returns c = record { told = (tape-line (c .in-Ok .total), tape (c .in-Ok .ensures tt .answer .taped), c .in-Continue-write-line .ensures tt .written) }
+returns c = record { told = (tape-line (c .in-Ok .total), tape (c .in-Ok .ensures tt .answer .taped), c .in-Continue-write-length .ensures tt .written) }
