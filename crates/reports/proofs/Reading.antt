@@ -28,7 +28,7 @@ fits Network n b le r = let i = pairs-few n (n - 1) le (omega arith) in omega (a
 fits Table n b le r = let i = triples-few n (n - 1) (n - 2) le (omega arith) (omega arith) in omega (arith, r .turns, i)
 
 -- a text that is no sheet for lists that are long enough is none for any
-no-sheet : (text : List ℕ) (b : Lists) (f : Fault) → Roomy b → Declines text b f → (room : Lists) → Declines text room f
+pub no-sheet : (text : List ℕ) (b : Lists) (f : Fault) → Roomy b → Declines text b f → (room : Lists) → Declines text room f
 no-sheet text b f r (unopened u) room = unopened u
 no-sheet text b f r (stopped k n rest o s) room = stopped k n rest o s
 no-sheet text b f r (tight k n vs h lt e) room = let i = fits k n b (h .sheet .limited) r in absurd (omega arith)
@@ -42,7 +42,7 @@ module _ (text : List ℕ) (kind k : Kind) (n : ℕ) (b a : Lists) (is : kind �
   pub read-limit : n ≤ limit k
   read-limit = subst (λ k. n ≤ limit k) is (r .holds .sheet .limited)
 
-  front-of-kind : Holds text k n (take (due k n) (list k a))
+  pub front-of-kind : Holds text k n (take (due k n) (list k a))
   front-of-kind = front-values text k n b a (subst (λ k. Reads text k n b a) is r)
 
   pub read-long : length (take (due k n) (list k a)) ≡ due k n
