@@ -1,5 +1,5 @@
 -- Renamings: what a judgement of the list says of the system, and what the system tells.
-use Rattle.std.proofs.Common.{◌≡◌, ℕ, ◌-◌, ◌<◌, ◌≤◌, T, List, [], ◌++◌, length, take, drop, Some, None, Option, sym, refl, ap, ◌∙◌, subst, inl, inr, arith, length-append, length-drop}
+use Rattle.std.proofs.Common.{◌≡◌, ℕ, ◌-◌, ◌<◌, ◌≤◌, T, List, [], ◌++◌, length, take, drop, Some, None, Option, sym, refl, ap, ◌∙◌, inl, inr, arith, length-append, length-drop}
 use mathlib.Core.Logic.Iff
 use lib.Seq.{take-append_seam}
 use Rattle.std.proofs.ByRecursion.{All-get_or}

@@ -1,5 +1,7 @@
 //! CC systems as an interface: what is asked of a system, what it may refuse, and the two layers over any system.
 
+#![tactic(auto)]
+
 pub mod faults;
 pub mod mirrors;
 pub mod renamings;

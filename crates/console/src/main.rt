@@ -1,6 +1,8 @@
 //! `console SHEET [mirror | rename:a,b,c ...]`: opens the sheet, puts the layers over its system, and makes the calls that standard input asks
 //! for, one a line.
 
+#![tactic(auto)]
+
 use anyhow::Context;
 use shell::console;
 use std::io::{Read, Write};

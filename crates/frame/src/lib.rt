@@ -13,6 +13,8 @@
 //! This one neither writes nor asks for memory, and is there for measuring: it makes calls that are pairs of bytes, a letter and a number,
 //! all of them so many times over, and adds up what their answers are worth.
 
+#![tactic(auto)]
+
 mod answers;
 mod tallies;
 

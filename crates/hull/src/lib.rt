@@ -1,5 +1,7 @@
 //! A convex hull over any CC system that changes mark by mark.
 
+#![tactic(auto)]
+
 mod admitting;
 pub mod answers;
 mod changing;

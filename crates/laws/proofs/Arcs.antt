@@ -1,11 +1,11 @@
 -- Arcs of a set of marks: what one more mark does to them, and which walks along them are the whole hull.
-use Rattle.std.proofs.Common.{◌≡◌, ℕ, ◌<◌, ◌≢◌, ◌⊎◌, List, [], ◌∷◌, ◌++◌, sym, refl, ap, ◌∙◌, subst, inl, inr}
+use Rattle.std.proofs.Common.{◌≡◌, ℕ, ◌<◌, ◌≢◌, ◌⊎◌, List, ◌∷◌, sym, refl, ◌∙◌, subst, inl, inr}
 use mathlib.Core.Logic.{Ne-symm, ⊎_swap}
 use Rattle.std.specs.List.{AllByRecursion as All}
-use Rattle.laws.specs.Systems.{Meaning, Three, Left, Lawful}
-use Rattle.laws.specs.Outlines.{Marks, adding, Arc, Apart, Step, Follows, Hull, Around}
+use Rattle.laws.specs.Systems.{Meaning, Left, Lawful}
+use Rattle.laws.specs.Outlines.{Marks, adding, Arc, Step, Hull, Around}
 use Rattle.laws.proofs.Turns.{cyclic², opposite, transitive'}
-use Rattle.laws.proofs.Walks.{Walk, end, on, other, first, last, step, leave, found, walk_map, walk_all, apart}
+use Rattle.laws.proofs.Walks.{Walk, end, on, other, first, step, leave, found, walk_map, walk_all, apart}
 
 module _ {m : Meaning} (L : Lawful m) {s : ℕ → Type 0} where
   -- one arc at most leaves a mark, and one at most comes to it

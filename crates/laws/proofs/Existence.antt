@@ -6,10 +6,10 @@ use native.Mathlib.Decide.{dec_le}
 use Rattle.std.specs.List.{AllByRecursion as All}
 use Rattle.std.proofs.ByRecursion.{All-append, All-weaker}
 use Rattle.laws.specs.Systems.{Meaning, Left, Lawful}
-use Rattle.laws.specs.Outlines.{Marks, adding, Arc, Hull, Outline, none, one, more, ReadOut, Turned, Grown}
-use Rattle.laws.proofs.Walks.{Walk, end, on, other}
+use Rattle.laws.specs.Outlines.{Marks, adding, Arc, Hull, Outline, none, one, more, ReadOut, Turned}
+use Rattle.laws.proofs.Walks.{end, on, other}
 use Rattle.laws.proofs.Arcs.{whole}
-use Rattle.laws.proofs.Insertion.{Loop, loop, hull, from, insert, marks'}
+use Rattle.laws.proofs.Insertion.{loop, hull, from, insert, marks'}
 
 -- the outline goes by the marks and the turns among them
 module _ {m m' : Meaning} {s s' : ℕ → Type 0} (marks : (p : ℕ) → s p ↔ s' p) where

@@ -1,11 +1,11 @@
 -- The fan of a hull from its first mark: a mark that is left of every arc is in just one of its triangles.
-use Rattle.std.proofs.Common.{◌≡◌, ℕ, ◌<◌, ◌≤◌, ◌≢◌, ◌⊎◌, List, [], ◌∷◌, ◌++◌, length, sym, refl, ap, ◌∙◌, subst, inl, inr, arith}
+use Rattle.std.proofs.Common.{◌≡◌, ℕ, ◌≤◌, ◌≢◌, List, [], ◌∷◌, length, sym, refl, subst, inl, inr, arith}
 use mathlib.Core.Logic.{Ne-symm}
 use Rattle.std.specs.List.{AllByRecursion as All}
-use Rattle.laws.specs.Systems.{Meaning, Three, Left, Lawful}
-use Rattle.laws.specs.Outlines.{Marks, Arc, Step, Follows, Hull, Outline, none, one, more, Around}
+use Rattle.laws.specs.Systems.{Meaning, Left, Lawful}
+use Rattle.laws.specs.Outlines.{Marks, Arc, Follows, Hull, Outline, none, one, more, Around}
 use Rattle.laws.proofs.Turns.{cyclic², opposite}
-use Rattle.laws.proofs.Walks.{Walk, end, on, steps, only}
+use Rattle.laws.proofs.Walks.{steps, only}
 use Rattle.laws.proofs.Arcs.{fan, one_before}
 use Rattle.laws.proofs.Insertion.{loop}
 

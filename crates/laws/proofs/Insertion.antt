@@ -1,10 +1,10 @@
 -- One more mark: the hull of s with x.
-use Rattle.std.proofs.Common.{◌≡◌, ℕ, ◌<◌, ◌≢◌, ◌⊎◌, List, [], ◌∷◌, ◌++◌, sym, refl, ap, ◌∙◌, subst, inl, inr, append_assoc, append-nil}
+use Rattle.std.proofs.Common.{ℕ, ◌<◌, ◌≢◌, ◌⊎◌, List, [], ◌∷◌, ◌++◌, sym, refl, subst, inl, inr, append_assoc, append-nil}
 use mathlib.Core.Logic.{Ne-symm, ⊎_swap}
 use Rattle.std.specs.List.{AllByRecursion as All}
 use Rattle.std.proofs.ByRecursion.{All-append}
-use Rattle.laws.specs.Systems.{Meaning, Three, Left, Lawful}
-use Rattle.laws.specs.Outlines.{Marks, adding, Arc, Apart, Step, Follows, Hull, Turned, Grown}
+use Rattle.laws.specs.Systems.{Meaning, Left, Lawful}
+use Rattle.laws.specs.Outlines.{Marks, adding, Arc, Follows, Hull, Turned, Grown}
 use Rattle.laws.proofs.Walks.{Walk, end, on, after, before, first, last, join, cut, step, steps, walk_map, apart_mid, all_cut, Run, all, none, some, run, stays}
 use Rattle.laws.proofs.Arcs.{one_after, one_before, kept, arc_to, arc_from, turn, not_all, whole}
 

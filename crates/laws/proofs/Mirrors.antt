@@ -1,16 +1,16 @@
 -- The mirrored system: its laws, and its outlines, which run the other way round.
-use Rattle.std.proofs.Common.{◌≡◌, ℕ, ◌≢◌, ◌⊎◌, List, [], ◌∷◌, ◌++◌, reverse, sym, refl, ap, subst, inl, inr}
+use Rattle.std.proofs.Common.{ℕ, List, [], ◌∷◌, reverse, sym, refl, subst, inl, inr}
 use mathlib.Core.List.{reverse-cons}
-use mathlib.Core.Logic.{Ne-symm, ⊎_swap}
+use mathlib.Core.Logic.{Ne-symm}
 use Rattle.std.specs.List.{AllByRecursion as All}
 use Rattle.std.proofs.ByRecursion.{All-append}
-use Rattle.laws.specs.Systems.{Meaning, Three, Left, Right, Lawful}
+use Rattle.laws.specs.Systems.{Meaning, Left, Right, Lawful}
 use Rattle.laws.specs.Outlines.{Marks, Arc, Hull, Outline, none, one, more}
 use Rattle.laws.specs.Layers.{mirrored, reversed}
 use Rattle.laws.proofs.Turns.{cyclic², swapped, right_left, left_right, transitive'}
 use Rattle.laws.proofs.Walks.{Walk, end, on, join, walk_map}
 use Rattle.laws.proofs.Arcs.{whole}
-use Rattle.laws.proofs.Insertion.{Loop, loop}
+use Rattle.laws.proofs.Insertion.{loop}
 use Rattle.laws.proofs.Existence.{outline_of, outline_turned}
 
 -- pqr turns left in the mirror if prq does, and the other way round

@@ -1,6 +1,5 @@
 -- Lists of names: when their marks are different and below the count.
-use Rattle.std.proofs.Common.{◌≡◌, ℕ, zero, suc, ◌+◌, ◌<◌, ◌≤◌, max, Bool, true, false, cond, not, ◌&&◌, T, eqb, ltb, leb, ◌≢◌, List, [], ◌∷◌, ◌++◌, length, get_or, take, sym, refl, ap, ◌∙◌, subst, add-one, arith, ltb→lt, leb→le, T_not, lt-ltb, ne_eqb}
-use mathlib.Core.Logic.{Ne-symm}
+use Rattle.std.proofs.Common.{◌≡◌, ℕ, zero, suc, ◌+◌, ◌<◌, ◌≤◌, max, Bool, true, false, not, ◌&&◌, T, eqb, ltb, ◌≢◌, List, [], ◌∷◌, length, take, sym, refl, ap, ◌∙◌, subst, add-one, arith, ltb→lt, T_not, lt-ltb, ne_eqb}
 use lib.Dec.{eqb_refl}
 use Rattle.std.specs.List.{AllByRecursion as All}
 use Rattle.laws.specs.Outlines.{Apart}

@@ -1,15 +1,13 @@
 -- A pile of mirrors and renamings: it is lawful, and its outlines mean the outlines below it, backwards under an odd number of mirrors.
-use Rattle.std.proofs.Common.{◌≡◌, ℕ, ◌<◌, ◌≤◌, Bool, true, false, cond, not, ◌&&◌, T, leb, ◌≢◌, ◌⊎◌, ◌↔◌, List, [], ◌∷◌, ◌++◌, map, reverse, length, sym, refl, ap, ◌∙◌, subst, ap₂, inl, inr, map-id, arith, leb→le, le-leb}
-use mathlib.Core.List.{reverse-cons, reverse-append, reverse-reverse, map-map}
+use Rattle.std.proofs.Common.{◌≡◌, ℕ, ◌<◌, ◌≤◌, Bool, true, false, cond, not, T, leb, List, [], ◌∷◌, ◌++◌, map, reverse, length, sym, refl, ap, ◌∙◌, subst, map-id, arith, leb→le, le-leb}
+use mathlib.Core.List.{reverse-cons, reverse-reverse, map-map}
 use mathlib.Core.Logic.Iff
-use Rattle.std.specs.List.{AllByRecursion as All}
 use Rattle.laws.specs.Systems.{Meaning, Three, Left, Right, Lawful}
-use Rattle.laws.specs.Outlines.{Marks, Apart, Outline, none, one, more, Turned}
-use Rattle.laws.specs.Layers.{Layer, mirror, renaming, mirrored, named, picked, image, fresh, different, namable, renamed, pile, means, Meant, odd, backwards_if}
-use Rattle.laws.specs.Theorems.{of}
+use Rattle.laws.specs.Outlines.{Marks, Outline, none, one, more}
+use Rattle.laws.specs.Layers.{Layer, mirror, renaming, named, image, different, namable, renamed, pile, means, Meant, odd, backwards_if}
 use Rattle.laws.proofs.Names.{both, and, different_apart}
 use Rattle.laws.proofs.Existence.{outline_same}
-use Rattle.laws.proofs.Uniqueness.{turned, first_arc}
+use Rattle.laws.proofs.Uniqueness.{first_arc}
 use Rattle.laws.proofs.Mirrors.{mirror_lawful, mirror_reverse}
 use Rattle.laws.proofs.Renaming.{in_names, picked_lawful, picked_outline, image_marks}
 

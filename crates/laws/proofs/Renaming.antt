@@ -1,15 +1,14 @@
 -- Marks under other names: the laws, and the outlines, which correspond.
-use Rattle.std.proofs.Common.{◌≡◌, ℕ, zero, suc, ◌<◌, ◌≤◌, ◌≢◌, ◌⊎◌, List, [], ◌∷◌, ◌++◌, map, length, get_or, sym, refl, ap, ◌∙◌, subst, inl, inr, arith}
-use mathlib.Core.Logic.{Ne-symm}
+use Rattle.std.proofs.Common.{◌≡◌, ℕ, zero, suc, ◌<◌, ◌≢◌, List, [], ◌∷◌, map, length, sym, refl, ap, ◌∙◌, subst, inl, inr, arith}
 use Rattle.std.specs.List.{AllByRecursion as All}
-use Rattle.std.proofs.ByRecursion.{All-get_or, All-map}
+use Rattle.std.proofs.ByRecursion.{All-get_or}
 use Rattle.laws.specs.Systems.{Meaning, Three, Left, Lawful}
 use Rattle.laws.specs.Outlines.{Marks, Arc, Apart, Hull, Outline, none, one, more}
 use Rattle.laws.specs.Layers.{named, picked, image}
 use Rattle.laws.proofs.Walks.{Walk, end, on, first, other}
 use Rattle.laws.proofs.Counts.{few}
 use Rattle.laws.proofs.Arcs.{whole}
-use Rattle.laws.proofs.Insertion.{Loop, loop}
+use Rattle.laws.proofs.Insertion.{loop}
 use Rattle.laws.proofs.Existence.{outline_of}
 
 -- a list without repeats has different marks at different places

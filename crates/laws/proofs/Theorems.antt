@@ -1,7 +1,6 @@
 -- The theorems of specs/Theory.antt.
-use Rattle.std.proofs.Common.{ℕ, Bool, true, false, ◌⊎◌, inl, inr}
+use Rattle.std.proofs.Common.{Bool, true, false, ◌⊎◌, inl, inr}
 use mathlib.Core.Logic.Iff
-use Rattle.laws.specs.Outlines.{Follows}
 use Rattle.laws.specs.Theorems.{of, MirrorLaw, SomeHidden, Insertion, Fan, ThreeOrMore, Existence, Uniqueness, GoesByTurns, Mirrored, Picked, Piled}
 use Rattle.laws.proofs.Turns.{transitive'}
 use Rattle.laws.proofs.Walks.{steps}

@@ -1,5 +1,5 @@
 -- Consequences of the laws on few marks: law 5's mirror.
-use Rattle.std.proofs.Common.{◌≡◌, ℕ, ◌≢◌, ◌⊎◌, sym, subst, inl, inr}
+use Rattle.std.proofs.Common.{ℕ, ◌≢◌, ◌⊎◌, sym, inl, inr}
 use mathlib.Core.Logic.{Ne-symm}
 use Rattle.laws.specs.Systems.{Meaning, Three, Left, Right, Lawful}
 

@@ -1,11 +1,11 @@
 -- Two outlines of a set are one ring, started at two places; started at the lowest mark they are the same list.
-use Rattle.std.proofs.Common.{◌≡◌, ℕ, ◌≤◌, ◌≢◌, ◌⊎◌, ◌↔◌, List, [], ◌∷◌, ◌++◌, sym, refl, ap, ◌∙◌, subst, ap₂, inl, inr, append-nil, arith}
+use Rattle.std.proofs.Common.{◌≡◌, ℕ, ◌≢◌, List, [], ◌∷◌, sym, refl, ap, ◌∙◌, subst, ap₂, inl, inr, append-nil, arith}
 use Rattle.std.specs.List.{AllByRecursion as All}
-use Rattle.laws.specs.Systems.{Meaning, Left, Lawful}
-use Rattle.laws.specs.Outlines.{Marks, Arc, Apart, Step, Follows, Hull, Outline, none, one, more, Turned, ReadOut}
-use Rattle.laws.proofs.Walks.{Walk, other, seek, same, all_cut}
+use Rattle.laws.specs.Systems.{Meaning, Lawful}
+use Rattle.laws.specs.Outlines.{Marks, Arc, Apart, Step, Hull, Outline, none, one, more, Turned, ReadOut}
+use Rattle.laws.proofs.Walks.{other, seek, same, all_cut}
 use Rattle.laws.proofs.Arcs.{one_after}
-use Rattle.laws.proofs.Insertion.{Loop, loop, hull, from}
+use Rattle.laws.proofs.Insertion.{Loop, loop, from}
 
 pub outline_apart : {m : Meaning} {s : ℕ → Type 0} {l : List ℕ} → Outline m s l → Apart l
 outline_apart (none h) = tt

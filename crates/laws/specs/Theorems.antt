@@ -1,8 +1,8 @@
 -- What holds of outlines in every lawful system. A set of marks is given here by its test, s : ℕ → Bool.
-use Rattle.std.specs.Prelude.{◌≡◌, ℕ, ◌<◌, ◌≤◌, Bool, T, ◌≢◌, ◌⊎◌, ◌↔◌, List, [], ◌∷◌, map, reverse, length}
+use Rattle.std.specs.Prelude.{◌≡◌, ℕ, ◌<◌, ◌≤◌, Bool, T, ◌≢◌, ◌⊎◌, ◌↔◌, List, ◌∷◌, map, reverse, length}
 use Rattle.std.specs.List.{AllByRecursion as All}
 use Rattle.laws.specs.Systems.{Meaning, Left, Lawful}
-use Rattle.laws.specs.Outlines.{Marks, adding, Arc, Apart, Follows, Hull, Outline, ReadOut, Turned, Grown, Around}
+use Rattle.laws.specs.Outlines.{Marks, adding, Apart, Follows, Hull, Outline, ReadOut, Turned, Grown, Around}
 use Rattle.laws.specs.Layers.{mirrored, reversed, named, picked, image, Layer, pile, means, Meant, odd, backwards_if}
 
 -- the marks that pass the test

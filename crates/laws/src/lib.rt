@@ -4,6 +4,8 @@
 //! `Layers` (mirrors, renamings and piles of them) and `Theorems` (what holds of them all). No code runs here:
 //! the one function below asks for the proofs of the theorems.
 
+#![tactic(auto)]
+
 ghost use Rattle.laws.specs.Theorems.{MirrorLaw, SomeHidden, Insertion, Fan, ThreeOrMore, Existence, Uniqueness, GoesByTurns, Mirrored, Picked, Piled};
 
 // The theory of outlines: its contract names the theorems.

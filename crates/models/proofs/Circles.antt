@@ -1,7 +1,7 @@
 -- A place outside of a circle, and the determinant of three places as seen from a fourth.
-use Rattle.std.proofs.Common.{◌≡◌, List, [], ◌∷◌, ℤ, pos, ◌+ℤ◌, ◌-ℤ◌, ◌*ℤ◌, sym, refl, ap, ◌∙◌, subst}
+use Rattle.std.proofs.Common.{◌≡◌, [], ◌∷◌, ℤ, pos, ◌+ℤ◌, ◌-ℤ◌, ◌*ℤ◌, sym, ap, ◌∙◌, subst}
 use Rattle.models.specs.declared.places.Place.{Place}
-use Rattle.models.specs.Determinants.{Row, det, Positive}
+use Rattle.models.specs.Determinants.{det, Positive}
 use Rattle.models.specs.Places.{cross}
 use Rattle.models.specs.Stars.{seen}
 use Rattle.models.specs.Circles.{far, Outside, OutsideByDeterminant}

@@ -1,6 +1,6 @@
 -- What is first in rising order is one only.
 use Rattle.std.proofs.Common.{◌≡◌, ℕ, ◌<◌, sym, subst, arith}
-use Rattle.laws.specs.First.{First, FirstPair, FirstTriple, Never, NeverPair, NeverTriple}
+use Rattle.laws.specs.First.{First, FirstPair, FirstTriple, NeverPair, NeverTriple}
 
 same : {i j : ℕ} → (i < j → ⊥) → (j < i → ⊥) → i ≡ j
 same h k = omega arith

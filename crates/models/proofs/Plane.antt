@@ -1,5 +1,5 @@
 -- A good list of places keeps the laws: its points are rows with w = 1.
-use Rattle.std.proofs.Common.{◌≡◌, ℕ, ◌+◌, ◌*◌, List, [], ◌∷◌, length, ℤ, pos, sym, ◌∙◌, subst, arith}
+use Rattle.std.proofs.Common.{◌≡◌, ℕ, ◌+◌, ◌*◌, List, [], ◌∷◌, length, pos, sym, ◌∙◌, subst, arith}
 use mathlib.Core.Logic.{∥∥₁_elim}
 use mathlib.Core.HLevel.{Π_prop, ¬_prop}
 use native.Mathlib.Bridge.{le_prop}

@@ -1,11 +1,10 @@
 -- The identities of determinants, and that a system by their signs is lawful.
-use Rattle.std.proofs.Common.{◌≡◌, ℕ, zero, suc, ◌+◌, ◌*◌, ◌<◌, ◌≤◌, Bool, true, false, T, ltb, ◌≢◌, ◌⊎◌, List, [], ◌∷◌, ℤ, pos, negsuc, ◌+ℤ◌, ◌-ℤ◌, ◌*ℤ◌, neg_ℤ, sym, refl, ap, ◌∙◌, subst, inl, inr, ⊎_elim, mul-pos, arith, ltb→lt, lt→ltb}
+use Rattle.std.proofs.Common.{◌≡◌, ℕ, zero, suc, ◌+◌, ◌*◌, ◌<◌, ◌≢◌, ◌⊎◌, List, [], ◌∷◌, ℤ, pos, negsuc, ◌+ℤ◌, ◌*ℤ◌, neg_ℤ, sym, refl, ap, ◌∙◌, subst, inl, inr, ⊎_elim, mul-pos, arith, ltb→lt, lt→ltb}
 use native.Mathlib.Decide.{dec_lt}
 use lib.IntN.{*ℤ-zero}
-use lib.Signed.{lt_z}
 use Rattle.laws.specs.Systems.{Meaning, Three, Left, Lawful}
 use Rattle.models.specs.Determinants.{Row, det, Positive, by_sign, GeneralPosition}
-use Rattle.models.proofs.Polynomials.{Expr, var, con, neg, ◌⊕◌, ◌⊝◌, ◌⊗◌, solve}
+use Rattle.models.proofs.Polynomials.{Expr, var, neg, ◌⊕◌, ◌⊝◌, ◌⊗◌, solve}
 
 -- ---- three rows of variables, as expressions, and what the variables are worth
 

@@ -1,5 +1,5 @@
 -- A clear star keeps the laws: its rows have w above 0, since no twin of c is left.
-use Rattle.std.proofs.Common.{◌≡◌, ℕ, zero, suc, ◌+◌, ◌-◌, ◌*◌, ◌<◌, ◌≤◌, Bool, true, false, cond, T, ltb, ◌≢◌, ◌⊎◌, List, length, ℤ, pos, negsuc, ◌+ℤ◌, ◌-ℤ◌, ◌*ℤ◌, nat_abs, sym, refl, ap, ◌∙◌, subst, inl, inr, ⊎_elim, arith, ltb→lt, lt→ltb}
+use Rattle.std.proofs.Common.{◌≡◌, ℕ, zero, suc, ◌+◌, ◌-◌, ◌*◌, ◌<◌, ◌≤◌, Bool, true, false, cond, T, ltb, ◌≢◌, List, length, ℤ, pos, negsuc, ◌+ℤ◌, ◌-ℤ◌, ◌*ℤ◌, nat_abs, sym, refl, ap, ◌∙◌, subst, arith, ltb→lt, lt→ltb}
 use mathlib.Core.Logic.{∥∥₁_elim}
 use mathlib.Core.HLevel.{Π_prop, ¬_prop}
 use native.Mathlib.Bridge.{le_prop}
@@ -7,9 +7,9 @@ use native.Mathlib.Decide.{dec_lt}
 use lib.IntN.{ -ℤ-+ℤ_cancel, +ℤ_idl}
 use Rattle.laws.specs.Systems.{Lawful}
 use Rattle.models.specs.declared.places.Place.{Place}
-use Rattle.models.specs.Determinants.{Row, det, Positive, GeneralPosition}
-use Rattle.models.specs.Places.{place, Good, Twins}
-use Rattle.models.specs.Stars.{seen, other, star, OnCircle, Clear, clear-prop, StarsKeepTheLaws}
+use Rattle.models.specs.Determinants.{det, Positive, GeneralPosition}
+use Rattle.models.specs.Places.{place, Good}
+use Rattle.models.specs.Stars.{seen, other, star, Clear, clear-prop, StarsKeepTheLaws}
 use Rattle.models.proofs.Signs.{all_apart, lawful_by_sign}
 use Rattle.models.proofs.Plane.{good_is_prop}
 

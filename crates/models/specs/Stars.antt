@@ -1,5 +1,5 @@
 -- The star about a point c: every other point, by its difference from c and the square of its distance.
-use Rattle.std.specs.Prelude.{◌≡◌, ℕ, ◌+◌, ◌-◌, ◌<◌, cond, ◌≢◌, List, length, ℤ, pos, ◌+ℤ◌, ◌-ℤ◌, ◌*ℤ◌, nat_lt}
+use Rattle.std.specs.Prelude.{◌≡◌, ℕ, ◌+◌, ◌-◌, ◌<◌, cond, ◌≢◌, List, length, pos, ◌+ℤ◌, ◌-ℤ◌, ◌*ℤ◌, nat_lt}
 use Rattle.laws.specs.Systems.{Meaning, Lawful}
 use Rattle.models.specs.declared.places.Place.{Place}
 use Rattle.models.specs.Determinants.{Row, det, by_sign}

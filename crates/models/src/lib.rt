@@ -1,5 +1,7 @@
 //! Why the library's own systems keep the five laws: definitions and proofs, hardly any code.
 
+#![tactic(auto)]
+
 pub mod catalogue;
 pub mod networks;
 pub mod places;

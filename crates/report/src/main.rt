@@ -1,5 +1,7 @@
 //! Reads a sheet from standard input and prints its report.
 
+#![tactic(auto)]
+
 use std::io::Read;
 
 fn main(rt: HostRuntime) -> anyhow::Result<()> {

@@ -3,6 +3,8 @@
 //! The sheets stand in the file `stdin`, a line each: a name, `|`, and the sheet, in which `>` stands for a tab and `/`
 //! for byte 10.
 
+#![tactic(auto)]
+
 use anyhow::Context;
 use std::alloc::Global;
 use std::io::Read;

@@ -3,6 +3,8 @@
 //! `specs/Calls` defines the answer to each call by the system's meaning and the marks that are in; `specs/Runs` speaks of
 //! histories of calls and answers. No code runs here: the functions below ask for the proofs of the theorems.
 
+#![tactic(auto)]
+
 ghost use Rattle.runs.specs.Runs.{JustOneAnswer, SomeRun, RightIsEnough};
 
 // Every call has just one answer; every list of calls can be answered so; and right answers are enough for the theorem over runs.

@@ -1,5 +1,7 @@
 //! One section of five marks, from its list of places to a system, to layers over it, and to two histories of calls.
 
+#![tactic(auto)]
+
 mod showing;
 
 use cc::CcSystem;

@@ -1,5 +1,7 @@
 //! What is asked of a points system as a whole: the Delaunay star of a point, and the length of a tape around a ring.
 
+#![tactic(auto)]
+
 mod arcs;
 pub mod delaunay;
 pub mod tapes;

@@ -3,6 +3,8 @@
 //! A sheet tells a list of places, the crossings of a reflection network, or a table of turns (docs/SHEETS.md).
 //! What a sheet's text is stands in `specs/Sheets`; `read` gives back the one sheet that a text is, or says where the text stops being one.
 
+#![tactic(auto)]
+
 mod entries;
 mod lines;
 mod numbers;

@@ -4,6 +4,8 @@
 //! parted by `|`. In the sheet `>` stands for a tab, `/` for byte 10 and `~` for byte 13. An answer is the letter, the count and the
 //! values, or `no`, the refusal's number and its place.
 
+#![tactic(auto)]
+
 mod answers;
 mod runs;
 

@@ -1,5 +1,7 @@
 //! A shell over dynamic hulls: it opens a sheet, puts layers over its system, and makes the calls that a script asks for, one a line.
 
+#![tactic(auto)]
+
 mod answers;
 pub mod commands;
 pub mod dialogues;

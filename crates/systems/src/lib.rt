@@ -1,5 +1,7 @@
 //! CC systems over a list that the caller lends: each is opened by a check of the whole list, and tells its fault where it is refused.
 
+#![tactic(auto)]
+
 mod counts;
 mod geometry;
 pub mod networks;

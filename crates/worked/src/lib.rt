@@ -1,5 +1,7 @@
 //! Worked sections: what the definitions say of some small cases, in one statement.
 
+#![tactic(auto)]
+
 ghost use Rattle.worked.specs.Worked.{Worked};
 
 use models::catalogue::catalogue;

@@ -10,26 +10,26 @@ use Rattle.reports.proofs.Reading.{read_limit, read_long}
 use Rattle.shell.proofs.Opening.{answered, refused_text}
 use Rattle.shell.proofs.console.Goals as goal
 
-pub slice-bounds-over-points-end : goal.slice-bounds-over-points-end
-slice-bounds-over-points-end c =
+pub slice_bounds-over_points-end : goal.slice_bounds-over_points-end
+slice_bounds-over_points-end c =
     let few = read_limit c.args.text.now _ Points c.in-Ok.head.1 _ _ c.in-Points.is c.in-Ok.ensures.answers in
     omega (arith, few, c.read.auto.places)
 
-pub slice-bounds-over-network-end : goal.slice-bounds-over-network-end
-slice-bounds-over-network-end c =
+pub slice_bounds-over_network-end : goal.slice_bounds-over_network-end
+slice_bounds-over_network-end c =
     let n = c.in-Ok.head.1 in
-    let m = c.saturating-sub.result in
+    let m = c.saturating_sub.result in
     let few = read_limit c.args.text.now _ Network n _ _ c.in-Network.is c.in-Ok.ensures.answers in
-    let bound : n * m / 2 ≤ 496 = pairs_few n m few (omega (arith, few, c.saturating-sub.ensures)) in
+    let bound : n * m / 2 ≤ 496 = pairs_few n m few (omega (arith, few, c.saturating_sub.ensures)) in
     omega (arith, bound, c.read.auto.crossings)
 
-pub slice-bounds-over-table-end : goal.slice-bounds-over-table-end
-slice-bounds-over-table-end c =
+pub slice_bounds-over_table-end : goal.slice_bounds-over_table-end
+slice_bounds-over_table-end c =
     let n = c.in-Ok.head.1 in
-    let m = c.saturating-sub-in-Table.result in
-    let l = c.saturating-sub-in-Table-2.result in
+    let m = c.saturating_sub-in-Table.result in
+    let l = c.saturating_sub-in-Table-2.result in
     let few = read_limit c.args.text.now _ Table n _ _ c.in-Table.is c.in-Ok.ensures.answers in
-    let bound : n * m * l / 6 ≤ 2024 = triples_few n m l few (omega (arith, few, c.saturating-sub-in-Table.ensures)) (omega (arith, few, c.saturating-sub-in-Table-2.ensures)) in
+    let bound : n * m * l / 6 ≤ 2024 = triples_few n m l few (omega (arith, few, c.saturating_sub-in-Table.ensures)) (omega (arith, few, c.saturating_sub-in-Table-2.ensures)) in
     omega (arith, bound, c.read.auto.turns)
 
 pub returns-in-Points : goal.returns-in-Points
@@ -42,32 +42,32 @@ returns-in-Points c =
     let reads = c.in-Ok.ensures.answers in
     let is : part ≡ take n last.places = front_part n last.places in
     let long : length part ≡ n = ap length is ∙ read_long text _ Points n _ after c.in-Points.is reads in
-    record { console = made_so c.over-points.result (λ s k. answered text c.args.layers.now c.args.script.now _ Points n _ after c.in-Points.is reads part (string_bytes s) is (subst (λ j. Over Points j part c.args.layers.now c.args.script.now (string_bytes s)) long k)) c.over-points.ensures.over }
+    record { console = made_so c.over_points.result (λ s k. answered text c.args.layers.now c.args.script.now _ Points n _ after c.in-Points.is reads part (string_bytes s) is (subst (λ j. Over Points j part c.args.layers.now c.args.script.now (string_bytes s)) long k)) c.over_points.ensures.over }
 
 pub returns-in-Network : goal.returns-in-Network
 returns-in-Network c =
     let n = c.in-Ok.head.1 in
     let last = c.read.new in
-    let pairs = n * c.saturating-sub.result / 2 in
-    let is : between 0 pairs last.crossings ≡ take (due Network n) last.crossings = front_part pairs last.crossings ∙ ap (λ m. take (n * m / 2) last.crossings) c.saturating-sub.ensures in
+    let pairs = n * c.saturating_sub.result / 2 in
+    let is : between 0 pairs last.crossings ≡ take (due Network n) last.crossings = front_part pairs last.crossings ∙ ap (λ m. take (n * m / 2) last.crossings) c.saturating_sub.ensures in
     record {
-      console = made_so c.over-network.result
+      console = made_so c.over_network.result
           (λ s. answered c.args.text.now c.args.layers.now c.args.script.now _ Network n _ (lists last.places last.crossings last.turns) c.in-Network.is c.in-Ok.ensures.answers (between 0 pairs last.crossings) (string_bytes s) is)
-          c.over-network.ensures.over;
+          c.over_network.ensures.over;
     }
 
 pub returns-in-Table : goal.returns-in-Table
 returns-in-Table c =
     let n = c.in-Ok.head.1 in
     let last = c.read.new in
-    let m = c.saturating-sub-in-Table.ensures in
-    let l = c.saturating-sub-in-Table-2.ensures in
-    let triples = n * c.saturating-sub-in-Table.result * c.saturating-sub-in-Table-2.result / 6 in
+    let m = c.saturating_sub-in-Table.ensures in
+    let l = c.saturating_sub-in-Table-2.ensures in
+    let triples = n * c.saturating_sub-in-Table.result * c.saturating_sub-in-Table-2.result / 6 in
     let is : between 0 triples last.turns ≡ take (due Table n) last.turns = front_part triples last.turns ∙ (λ i. take (n * m i * l i / 6) last.turns) in
     record {
-      console = made_so c.over-table.result
+      console = made_so c.over_table.result
           (λ s. answered c.args.text.now c.args.layers.now c.args.script.now _ Table n _ (lists last.places last.crossings last.turns) c.in-Table.is c.in-Ok.ensures.answers (between 0 triples last.turns) (string_bytes s) is)
-          c.over-table.ensures.over;
+          c.over_table.ensures.over;
     }
 
 pub returns-in-Err : goal.returns-in-Err

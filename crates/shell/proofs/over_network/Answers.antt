@@ -22,7 +22,7 @@ returns-in-None c =
     let none = sym c.fault.ensures.fault ∙ c.in-None.is in
     let (many, same) = subst (Holds n vs opened.count opened.crossings.now) none c.open-network.ensures.holds in
     record {
-      over = made_so c.with-words.result
+      over = made_so c.with_words.result
           (λ out. opened_list Network n vs c.args.layers.now c.args.script.now opened.fault (network opened.count opened.crossings.now) (string_bytes out) c.open-network.ensures.judged none (λ i. network (many i) (same i)))
-          c.with-words.ensures.talk;
+          c.with_words.ensures.talk;
     }

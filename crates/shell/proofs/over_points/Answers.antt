@@ -22,7 +22,7 @@ returns-in-None c =
     let none = sym c.fault.ensures.told ∙ c.in-None.is in
     let same : q ≡ ps = c.open-points.ensures.list ∙ ap (λ f. held f ps) none in
     record {
-      over = made_so c.with-words.result
+      over = made_so c.with_words.result
           (λ out. opened_list Points (length ps) ps c.args.layers.now c.args.script.now c.open-points.result.fault (plane q) (string_bytes out) c.open-points.ensures.judged none (ap plane same))
-          c.with-words.ensures.talk;
+          c.with_words.ensures.talk;
     }

@@ -22,7 +22,7 @@ returns-in-None c =
     let none = sym c.fault.ensures.fault ∙ c.in-None.is in
     let (many, same) = subst (Holds n vs opened.count opened.turns.now) none c.open-table.ensures.holds in
     record {
-      over = made_so c.with-words.result
+      over = made_so c.with_words.result
           (λ out. opened_list Table n vs c.args.layers.now c.args.script.now opened.fault (turn_table opened.count opened.turns.now) (string_bytes out) c.open-table.ensures.judged none (λ i. turn_table (many i) (same i)))
-          c.with-words.ensures.talk;
+          c.with_words.ensures.talk;
     }

@@ -14,7 +14,7 @@ pub returns-in-Add : goal.returns-in-Add
 returns-in-Add g c =
     let old = c.args.hull.now in
     record {
-      valued = valued_by (g.S.CcSystem.meaning old.system) (held old.state.records) (held c.add.new.self.state.records) c.args.verb Add c.args.number c.of-added.result (added_answer c.add.result) c.in-Add.is c.add.ensures.answer (added_moved c.args.number old.state c.add.new.self.state c.add.result c.add.ensures.marks) c.of-added.ensures.worth;
+      valued = valued_by (g.S.CcSystem.meaning old.system) (held old.state.records) (held c.add.new.self.state.records) c.args.verb Add c.args.number c.of_added.result (added_answer c.add.result) c.in-Add.is c.add.ensures.answer (added_moved c.args.number old.state c.add.new.self.state c.add.result c.add.ensures.marks) c.of_added.ensures.worth;
       system = c.add.ensures.system;
     }
 
@@ -22,7 +22,7 @@ pub returns-in-Drop : goal.returns-in-Drop
 returns-in-Drop g c =
     let old = c.args.hull.now in
     record {
-      valued = valued_by (g.S.CcSystem.meaning old.system) (held old.state.records) (held c.drop.new.self.state.records) c.args.verb Drop c.args.number c.of-dropped.result (dropped_answer c.drop.result) c.in-Drop.is c.drop.ensures.answer (dropped_moved c.args.number old.state c.drop.new.self.state c.drop.result c.drop.ensures.marks) c.of-dropped.ensures.worth;
+      valued = valued_by (g.S.CcSystem.meaning old.system) (held old.state.records) (held c.drop.new.self.state.records) c.args.verb Drop c.args.number c.of_dropped.result (dropped_answer c.drop.result) c.in-Drop.is c.drop.ensures.answer (dropped_moved c.args.number old.state c.drop.new.self.state c.drop.result c.drop.ensures.marks) c.of_dropped.ensures.worth;
       system = c.drop.ensures.system;
     }
 
@@ -30,7 +30,7 @@ pub returns-in-Place : goal.returns-in-Place
 returns-in-Place g c =
     let old = c.args.hull.now in
     record {
-      valued = valued_by (g.S.CcSystem.meaning old.system) (held old.state.records) (held old.state.records) c.args.verb Place c.args.number c.of-placed.result (placed_answer c.place.result) c.in-Place.is c.place.ensures.answer (asks place? refl) c.of-placed.ensures.worth;
+      valued = valued_by (g.S.CcSystem.meaning old.system) (held old.state.records) (held old.state.records) c.args.verb Place c.args.number c.of_placed.result (placed_answer c.place.result) c.in-Place.is c.place.ensures.answer (asks place? refl) c.of_placed.ensures.worth;
       system = refl;
     }
 
@@ -46,7 +46,7 @@ pub returns-in-Outline : goal.returns-in-Outline
 returns-in-Outline g c =
     let old = c.args.hull.now in
     record {
-      valued = valued_by (g.S.CcSystem.meaning old.system) (held old.state.records) (held old.state.records) c.args.verb Outline c.args.number c.of-outline.result c.of-outline.ensures.answered.0 c.in-Outline.is (with_room (g.S.CcSystem.meaning old.system) (held old.state.records) outline c.of-outline.ensures.answered.0 c.args.number c.min-room.result c.min-room.ensures c.of-outline.ensures.answered.1) (asks outline? refl) c.of-outline.ensures.answered.2;
+      valued = valued_by (g.S.CcSystem.meaning old.system) (held old.state.records) (held old.state.records) c.args.verb Outline c.args.number c.of_outline.result c.of_outline.ensures.answered.0 c.in-Outline.is (with_room (g.S.CcSystem.meaning old.system) (held old.state.records) outline c.of_outline.ensures.answered.0 c.args.number c.min-room.result c.min-room.ensures c.of_outline.ensures.answered.1) (asks outline? refl) c.of_outline.ensures.answered.2;
       system = refl;
     }
 
@@ -54,6 +54,6 @@ pub returns-in-Rounds : goal.returns-in-Rounds
 returns-in-Rounds g c =
     let old = c.args.hull.now in
     record {
-      valued = valued_by (g.S.CcSystem.meaning old.system) (held old.state.records) (held old.state.records) c.args.verb Rounds c.args.number c.of-rounds.result c.of-rounds.ensures.answered.0 c.in-Rounds.is (with_room (g.S.CcSystem.meaning old.system) (held old.state.records) rounds c.of-rounds.ensures.answered.0 c.args.number c.min-room.result c.min-room.ensures c.of-rounds.ensures.answered.1) (asks rounds? refl) c.of-rounds.ensures.answered.2;
+      valued = valued_by (g.S.CcSystem.meaning old.system) (held old.state.records) (held old.state.records) c.args.verb Rounds c.args.number c.of_rounds.result c.of_rounds.ensures.answered.0 c.in-Rounds.is (with_room (g.S.CcSystem.meaning old.system) (held old.state.records) rounds c.of_rounds.ensures.answered.0 c.args.number c.min-room.result c.min-room.ensures c.of_rounds.ensures.answered.1) (asks rounds? refl) c.of_rounds.ensures.answered.2;
       system = refl;
     }

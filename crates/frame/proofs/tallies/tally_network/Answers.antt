@@ -16,4 +16,4 @@ returns-in-None c =
     let opened = c.open-network.result in
     let none = sym c.fault.ensures.fault ∙ c.in-None.is in
     let (many, same) = subst (Holds n vs opened.count opened.crossings.now) none c.open-network.ensures.holds in
-    record { counted = opened_list Network n vs c.args.calls.now c.args.times opened.fault c.open-network.ensures.judged none (network opened.count opened.crossings.now) c.tally-over.result (λ i. network (many i) (same i)) c.tally-over.ensures.total }
+    record { counted = opened_list Network n vs c.args.calls.now c.args.times opened.fault c.open-network.ensures.judged none (network opened.count opened.crossings.now) c.tally_over.result (λ i. network (many i) (same i)) c.tally_over.ensures.total }

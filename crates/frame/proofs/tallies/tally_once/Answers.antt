@@ -18,13 +18,13 @@ loop-rest-preserved-in-Some g c =
     let after = take (length rest - 2) (drop 2 rest) in
     let long : 2 ≤ length rest = omega (arith, ltb-false) in
     let s = held c.loop-rest.hull.state.records in
-    let t = held c.of-call-total.new.hull.state.records in
+    let t = held c.of_call-total.new.hull.state.records in
     let v = c.in-Some.verb in
     let k = c.from.result in
-    let valued = subst (λ (n : Meaning). Valued n s t v k c.of-call-total.result) (ap g.S.CcSystem.meaning c.loop-rest.invariant.0) c.of-call-total.ensures.valued in (
-      c.of-call-total.ensures.system ∙ c.loop-rest.invariant.0,
+    let valued = subst (λ (n : Meaning). Valued n s t v k c.of_call-total.result) (ap g.S.CcSystem.meaning c.loop-rest.invariant.0) c.of_call-total.ensures.valued in (
+      c.of_call-total.ensures.system ∙ c.loop-rest.invariant.0,
       omega arith,
-      one_more_call m c.args.calls.now s c.loop-rest.total rest c.loop-rest.invariant.2 (get_or rest 0 0) k after (paired rest long ∙ ap (λ n. get_or rest 0 0 ∷ n ∷ after) (sym c.from.ensures)) v t c.of-call-total.result
+      one_more_call m c.args.calls.now s c.loop-rest.total rest c.loop-rest.invariant.2 (get_or rest 0 0) k after (paired rest long ∙ ap (λ n. get_or rest 0 0 ∷ n ∷ after) (sym c.from.ensures)) v t c.of_call-total.result
           c.in-Some.ensures valued,
     )
 
@@ -38,7 +38,7 @@ loop-rest-preserved g c =
     let long : 2 ≤ length rest = omega (arith, ltb-false) in (
       c.loop-rest.invariant.0,
       c.loop-rest.invariant.1,
-      passed_over m c.args.calls.now (held c.loop-rest.hull.state.records) c.loop-rest.total rest c.loop-rest.invariant.2 (get_or rest 0 0) (get_or rest 1 0) (take (length rest - 2) (drop 2 rest)) (paired rest long) c.in-default-verb-of.ensures,
+      passed_over m c.args.calls.now (held c.loop-rest.hull.state.records) c.loop-rest.total rest c.loop-rest.invariant.2 (get_or rest 0 0) (get_or rest 1 0) (take (length rest - 2) (drop 2 rest)) (paired rest long) c.in_default-verb_of.ensures,
     )
 
 pub returns : goal.returns

@@ -16,4 +16,4 @@ returns-in-None c =
     let q = c.open-points.result.places.now in
     let none = sym c.fault.ensures.told ∙ c.in-None.is in
     let same : q ≡ ps = c.open-points.ensures.list ∙ ap (λ f. held f ps) none in
-    record { counted = opened_list Points (length ps) ps c.args.calls.now c.args.times c.open-points.result.fault c.open-points.ensures.judged none (plane q) c.tally-over.result (ap plane same) c.tally-over.ensures.total }
+    record { counted = opened_list Points (length ps) ps c.args.calls.now c.args.times c.open-points.result.fault c.open-points.ensures.judged none (plane q) c.tally_over.result (ap plane same) c.tally_over.ensures.total }

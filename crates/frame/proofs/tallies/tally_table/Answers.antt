@@ -16,4 +16,4 @@ returns-in-None c =
     let opened = c.open-table.result in
     let none = sym c.fault.ensures.fault ∙ c.in-None.is in
     let (many, same) = subst (Holds n vs opened.count opened.turns.now) none c.open-table.ensures.holds in
-    record { counted = opened_list Table n vs c.args.calls.now c.args.times opened.fault c.open-table.ensures.judged none (turn_table opened.count opened.turns.now) c.tally-over.result (λ i. turn_table (many i) (same i)) c.tally-over.ensures.total }
+    record { counted = opened_list Table n vs c.args.calls.now c.args.times opened.fault c.open-table.ensures.judged none (turn_table opened.count opened.turns.now) c.tally_over.result (λ i. turn_table (many i) (same i)) c.tally_over.ensures.total }

@@ -25,7 +25,7 @@ returns-in-Drop g c =
     let x = c.in-Drop.mark in
     record {
       called = called_by (g.S.CcSystem.meaning old.system) (held old.state.records) (held new.state.records) (drop x) (call_of c.args.call.now) (dropped_answer c.drop.result) _
-          (ap call_of c.in-Drop.is) (ap (told c.to-drop.result) c.new-in-Drop.ensures.items ∙ c.to-drop.ensures.told) c.drop.ensures.answer
+          (ap call_of c.in-Drop.is) (ap (told c.to_drop.result) c.new-in-Drop.ensures.items ∙ c.to_drop.ensures.told) c.drop.ensures.answer
           (dropped_moved x old.state new.state c.drop.result c.drop.ensures.marks);
       system = c.drop.ensures.system;
     }

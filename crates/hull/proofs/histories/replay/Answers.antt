@@ -12,14 +12,14 @@ loop-call-preserved g c =
     let calls = c.args.calls.now in
     let i = c.loop-call.call-index in
     let old = c.loop-call.hull in
-    let new = c.carry-out.new.hull in
+    let new = c.carry_out.new.hull in
     let call = c.call-item.result in
-    let a = c.in-ok-carry-out.field-0 in
+    let a = c.in_ok-carry_out.field-0 in
     let h = history (take i calls) (vec_items c.loop-call.answers) in
-    let called = subst (λ (n : Meaning). Called n (held old.state.records) (held new.state.records) (call_of call) (answer_of a)) (ap g.S.CcSystem.meaning c.loop-call.invariant.0) c.in-ok-carry-out.ensures.called in (
-      c.carry-out.ensures.system ∙ c.loop-call.invariant.0,
+    let called = subst (λ (n : Meaning). Called n (held old.state.records) (held new.state.records) (call_of call) (answer_of a)) (ap g.S.CcSystem.meaning c.loop-call.invariant.0) c.in_ok-carry_out.ensures.called in (
+      c.carry_out.ensures.system ∙ c.loop-call.invariant.0,
       subst (λ (k : History). Ran m k (held new.state.records))
-          (sym (history_more calls (vec_items c.loop-call.answers) (vec_items c.push.new.self) i call a c.loop-call-test.true c.call-item.is c.in-ok-push.ensures.items))
+          (sym (history_more calls (vec_items c.loop-call.answers) (vec_items c.push.new.self) i call a c.loop-call-test.true c.call-item.is c.in_ok-push.ensures.items))
           (ran_more m h (held old.state.records) (held new.state.records) (call_of call) (answer_of a) c.loop-call.invariant.1 called),
     )
 

@@ -5,8 +5,8 @@ use Rattle.hull.proofs.Lists.{listed_length, listed_at}
 use Rattle.hull.proofs.Layers.{off_more}
 use Rattle.hull.proofs.peeling.peel.Goals as goal
 
-pub offset-bounds-entries-mark : goal.offset-bounds-entries-mark
-offset-bounds-entries-mark c =
+pub offset_bounds-entries-mark : goal.offset_bounds-entries-mark
+offset_bounds-entries-mark c =
     let r = c.args.ring.now in
     let i = c.loop-i.i in
     omega (arith, (c.requires.small i (omega (arith, listed_length r, c.loop-i-test.true))).0, listed_at r i c.loop-i-test.true)

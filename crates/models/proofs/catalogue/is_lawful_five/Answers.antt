@@ -8,7 +8,7 @@ use Rattle.models.proofs.catalogue.is_lawful_five.Goals as goal
 pub returns : goal.returns
 returns c = record {
   lawful =
-      subst (λ (b : Bool). T b ↔ ((c.args.pattern < 1024) × Lawful (five c.args.pattern))) (sym c.is-ok.ensures.value)
-      (searched_catalogue c.catalogue.result.now c.catalogue.ensures.catalogue c.args.pattern c.binary-search.result
-      c.binary-search.ensures.position);
+      subst (λ (b : Bool). T b ↔ ((c.args.pattern < 1024) × Lawful (five c.args.pattern))) (sym c.is_ok.ensures.value)
+      (searched_catalogue c.catalogue.result.now c.catalogue.ensures.catalogue c.args.pattern c.binary_search.result
+      c.binary_search.ensures.position);
 }

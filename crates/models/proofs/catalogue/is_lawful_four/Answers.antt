@@ -5,7 +5,7 @@ use Rattle.models.proofs.catalogue.is_lawful_four.Goals as goal
 pub returns : goal.returns
 returns c =
     let p = c.args.pattern in
-    let neither = c.is-neither-five-nor-ten.ensures.neither in
+    let neither = c.is_neither_five_nor_ten.ensures.neither in
     record {
       lawful = (
         λ t. ((neither.0 t).0, (fours p (neither.0 t).0).0 ((neither.0 t).1, (neither.0 t).2)),

@@ -6,20 +6,20 @@ use Rattle.reports.proofs.layering.layers_of.Goals as goal
 
 pub unreachable-requires : goal.unreachable-requires
 unreachable-requires g c =
-    let hull = c.add-all.new.hull in
+    let hull = c.add_all.new.hull in
     let m = g.S.CcSystem.meaning hull.system in
     let s = held hull.state.records in
-    let same = ap (λ k. (g.S.CcSystem.meaning k).count) (c.add-all.ensures.system ∙ c.over-hull.ensures.system) in
-    ring_fits m s _ c.outline.new.list c.in-default.field-0 (g.S.CcSystem.lawful hull.system) (all_marks m s c.count-count.result c.add-all.ensures.all (c.count-count.ensures.marks ∙ sym same)) refl c.in-default.ensures.answer
+    let same = ap (λ k. (g.S.CcSystem.meaning k).count) (c.add_all.ensures.system ∙ c.over-hull.ensures.system) in
+    ring_fits m s _ c.outline.new.list c.in_default.field-0 (g.S.CcSystem.lawful hull.system) (all_marks m s c.count-count.result c.add_all.ensures.all (c.count-count.ensures.marks ∙ sym same)) refl c.in_default.ensures.answer
 
-pub unreachable-requires-in-default-rounds : goal.unreachable-requires-in-default-rounds
-unreachable-requires-in-default-rounds g c =
-    let hull = c.add-all.new.hull in
-    rounds_fit (g.S.CcSystem.meaning hull.system) (held hull.state.records) _ c.rounds.new.list c.in-default-rounds.field-0 (g.S.CcSystem.lawful hull.system) refl c.in-default-rounds.ensures.answer
+pub unreachable-requires-in_default-rounds : goal.unreachable-requires-in_default-rounds
+unreachable-requires-in_default-rounds g c =
+    let hull = c.add_all.new.hull in
+    rounds_fit (g.S.CcSystem.meaning hull.system) (held hull.state.records) _ c.rounds.new.list c.in_default-rounds.field-0 (g.S.CcSystem.lawful hull.system) refl c.in_default-rounds.ensures.answer
 
-pub invariant-of-result : goal.invariant-of-result
-invariant-of-result g c =
-    let hull = c.add-all.new.hull in
+pub invariant_of-result : goal.invariant_of-result
+invariant_of-result g c =
+    let hull = c.add_all.new.hull in
     let small = (g.S.CcSystem.lawful c.args.system).limit in
     let len = (ring_read (g.S.CcSystem.meaning hull.system) (held hull.state.records) _ c.outline.new.list c.in-Ok.len c.in-Ok.ensures.answer).1 in
     (c.outline.auto.list, (c.rounds.auto.list, (len, (omega (arith, small, c.count-count.ensures.marks), tt))))
@@ -27,10 +27,10 @@ invariant-of-result g c =
 pub returns : goal.returns
 returns g c =
     let m = g.S.CcSystem.meaning c.args.system in
-    let hull = c.add-all.new.hull in
-    let same : g.S.CcSystem.meaning hull.system ≡ m = ap g.S.CcSystem.meaning (c.add-all.ensures.system ∙ c.over-hull.ensures.system) in
+    let hull = c.add_all.new.hull in
+    let same : g.S.CcSystem.meaning hull.system ≡ m = ap g.S.CcSystem.meaning (c.add_all.ensures.system ∙ c.over-hull.ensures.system) in
     record {
-      layered = layered_by m (g.S.CcSystem.meaning hull.system) (held hull.state.records) _ c.outline.new.list _ c.rounds.new.list c.in-Ok.len c.in-Ok-rounds.field-0 c.count-count.result same c.add-all.ensures.all
+      layered = layered_by m (g.S.CcSystem.meaning hull.system) (held hull.state.records) _ c.outline.new.list _ c.rounds.new.list c.in-Ok.len c.in-Ok-rounds.field-0 c.count-count.result same c.add_all.ensures.all
           c.count-count.ensures.marks c.in-Ok.ensures.answer c.in-Ok-rounds.ensures.answer;
       count = c.count-count.ensures.marks;
     }

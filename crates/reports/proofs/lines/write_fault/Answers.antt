@@ -6,7 +6,7 @@ use Rattle.reports.proofs.lines.write_fault.Goals as goal
 pub returns : goal.returns
 returns c =
     record {
-      written = c.in-ok-write-line.ensures.written
+      written = c.in_ok-write_line.ensures.written
           ∙ ap (λ ns. string_bytes c.args.out.now ++ line c.args.word.now ns)
-          (fault_numbers c.args.fault c.number.result c.places-used.result c.places.result c.number.ensures.number c.places-used.ensures.used c.places.ensures.five);
+          (fault_numbers c.args.fault c.number.result c.places_used.result c.places.result c.number.ensures.number c.places_used.ensures.used c.places.ensures.five);
     }

@@ -14,28 +14,28 @@ moved : {ps qs : List Place} {c o : ℕ} → qs ≡ ps → o ≡ c → (i j : �
 moved e f i j a = subst (λ x. x) (λ t. Arc (star (e t) (f t)) (AllOf (star (e t) (f t))) i j) a
 
 -- mark i has no arc
-pub returns-in-err-j : goal.returns-in-err-j
-returns-in-err-j c =
+pub returns-in_err-j : goal.returns-in_err-j
+returns-in_err-j c =
     rw c.from-residual.ensures (record {
       pair = no_pair c.args.points.now.places.now c.args.c (good c.args.points.now.places.now c.args.points.now.good) c.requires.starred c.args.i
-          (λ j a. c.in-err-j.ensures.arc j (moved (sym c.requires.tied.0) (sym c.requires.tied.1) c.args.i j a));
+          (λ j a. c.in_err-j.ensures.arc j (moved (sym c.requires.tied.0) (sym c.requires.tied.1) c.args.i j a));
     })
 
 -- its arc faces c
 pub returns-then-faces : goal.returns-then-faces
 returns-then-faces c =
     let ps = c.args.points.now.places.now in
-    let p = c.in-ok-p.ensures.meant.1 ∙ ap (λ x. other x c.args.i) c.requires.tied.1 in
-    let q = c.in-ok-q.ensures.meant.1 ∙ ap (λ x. other x c.in-ok-j.j) c.requires.tied.1 in
+    let p = c.in_ok-p.ensures.meant.1 ∙ ap (λ x. other x c.args.i) c.requires.tied.1 in
+    let q = c.in_ok-q.ensures.meant.1 ∙ ap (λ x. other x c.in_ok-j.j) c.requires.tied.1 in
     record {
       pair = (
         p,
-        delaunay ps c.args.c (good ps c.args.points.now.good) c.requires.starred c.in-ok-p.p c.in-ok-q.q (record {
+        delaunay ps c.args.c (good ps c.args.points.now.good) c.requires.starred c.in_ok-p.p c.in_ok-q.q (record {
           i = c.args.i;
-          j = c.in-ok-j.j;
+          j = c.in_ok-j.j;
           i_means = sym p;
           j_means = sym q;
-          arc = moved c.requires.tied.0 c.requires.tied.1 c.args.i c.in-ok-j.j c.in-ok-j.ensures.arc;
+          arc = moved c.requires.tied.0 c.requires.tied.1 c.args.i c.in_ok-j.j c.in_ok-j.ensures.arc;
           faces = c.if-faces.ensures.faces;
         }),
       );
@@ -45,11 +45,11 @@ returns-then-faces c =
 pub returns-else-faces : goal.returns-else-faces
 returns-else-faces c =
     let ps = c.args.points.now.places.now in
-    let p = c.in-ok-p.ensures.meant.1 ∙ ap (λ x. other x c.args.i) c.requires.tied.1 in
-    let q = c.in-ok-q.ensures.meant.1 ∙ ap (λ x. other x c.in-ok-j.j) c.requires.tied.1 in
-    let a = moved c.requires.tied.0 c.requires.tied.1 c.args.i c.in-ok-j.j c.in-ok-j.ensures.arc in
+    let p = c.in_ok-p.ensures.meant.1 ∙ ap (λ x. other x c.args.i) c.requires.tied.1 in
+    let q = c.in_ok-q.ensures.meant.1 ∙ ap (λ x. other x c.in_ok-j.j) c.requires.tied.1 in
+    let a = moved c.requires.tied.0 c.requires.tied.1 c.args.i c.in_ok-j.j c.in_ok-j.ensures.arc in
     record {
       pair = λ r d.
-          let e = q ∙ the_pair ps c.args.c (good ps c.args.points.now.good) c.requires.starred c.args.i c.in-ok-j.j a r d in
+          let e = q ∙ the_pair ps c.args.c (good ps c.args.points.now.good) c.requires.starred c.args.i c.in_ok-j.j a r d in
           c.if-faces.ensures.faces (subst (λ x. x) (λ t. Left (plane ps) c.args.c (sym p t) (sym e t)) d.turns);
     }

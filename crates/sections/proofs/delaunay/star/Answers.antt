@@ -14,10 +14,10 @@ returns-in-Some c =
       answer = (refused (subst (StarJudged c.args.points.now.places.now c.args.c) (sym c.in-Some.ensures.told) c.about-star.ensures.judged), refl);
     }
 
-pub all-pairs-n-requires : goal.all-pairs-n-requires
-all-pairs-n-requires c =
+pub all_pairs-n-requires : goal.all_pairs-n-requires
+all_pairs-n-requires c =
     let ps = c.args.points.now.places.now in
-    let told = sym c.in-default.ensures.told in
+    let told = sym c.in_default.ensures.told in
     record {
       tied = (c.about-star.ensures.list ∙ ap (λ f. held f ps) told, c.about-star.ensures.centre);
       starred = subst (StarJudged ps c.args.c) told c.about-star.ensures.judged;
@@ -28,14 +28,14 @@ all-pairs-n-requires c =
 pub returns-then-pairs-n : goal.returns-then-pairs-n
 returns-then-pairs-n c =
     let ps = c.args.points.now.places.now in
-    let starred = subst (StarJudged ps c.args.c) (sym c.in-default.ensures.told) c.about-star.ensures.judged in
-    let n = c.all-pairs-n.result in
-    let found = c.all-pairs-n.new.pairs in
-    let long : length (take n found) ≡ n = length-take-le n found (omega (arith, c.all-pairs-n.ensures.few, c.all-pairs-n.auto.pairs)) in
+    let starred = subst (StarJudged ps c.args.c) (sym c.in_default.ensures.told) c.about-star.ensures.judged in
+    let n = c.all_pairs-n.result in
+    let found = c.all_pairs-n.new.pairs in
+    let long : length (take n found) ≡ n = length-take-le n found (omega (arith, c.all_pairs-n.ensures.few, c.all_pairs-n.auto.pairs)) in
     record {
       answer = (
         subst (λ m. StarDeclined ps c.args.c (length c.args.pairs.now) (Tight m)) long
-            (tight {l = take n found} starred c.all-pairs-n.ensures.pairs (omega (arith, long, c.if-pairs-n.true))),
+            (tight {l = take n found} starred c.all_pairs-n.ensures.pairs (omega (arith, long, c.if-pairs-n.true))),
         refl,
       );
     }
@@ -43,8 +43,8 @@ returns-then-pairs-n c =
 pub returns : goal.returns
 returns c =
     let ps = c.args.points.now.places.now in
-    let starred = subst (StarJudged ps c.args.c) (sym c.in-default.ensures.told) c.about-star.ensures.judged in
+    let starred = subst (StarJudged ps c.args.c) (sym c.in_default.ensures.told) c.about-star.ensures.judged in
     record {
-      answer = copied ps c.args.c c.all-pairs-n.result c.args.pairs.now c.all-pairs-n.new.pairs c.copy-from-slice.new.self starred c.if-pairs-n.false
-          c.copy-from-slice.ensures.len c.copy-from-slice.ensures.after c.all-pairs-n.ensures.pairs;
+      answer = copied ps c.args.c c.all_pairs-n.result c.args.pairs.now c.all_pairs-n.new.pairs c.copy_from_slice.new.self starred c.if-pairs-n.false
+          c.copy_from_slice.ensures.len c.copy_from_slice.ensures.after c.all_pairs-n.ensures.pairs;
     }

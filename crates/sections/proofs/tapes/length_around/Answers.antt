@@ -8,8 +8,8 @@ pub loop-i-preserved : goal.loop-i-preserved
 loop-i-preserved c =
     let ps = c.args.points.now.places.now in
     let ring = c.args.ring.now in
-    let r = c.step-between-total.result in (
-      omega (arith, c.loop-i.invariant.0, c.step-between-total.ensures.small),
+    let r = c.step_between-total.result in (
+      omega (arith, c.loop-i.invariant.0, c.step_between-total.ensures.small),
       tape_more ps ring c.loop-i.i c.loop-i.total r c.loop-i.invariant.1
-          (subst (λ m. Root (squared (place ps (entry ring c.loop-i.i)) (place ps m)) r) c.next-on.ensures.follows c.step-between-total.ensures.root),
+          (subst (λ m. Root (squared (place ps (entry ring c.loop-i.i)) (place ps m)) r) c.next_on.ensures.follows c.step_between-total.ensures.root),
     )

@@ -9,23 +9,23 @@ use Rattle.sheet.specs.Marks.{same_mark, mark_is}
 use Rattle.sheet.proofs.entries.mark.Goals as goal
 use Rattle.sheet.proofs.entries.mark.Goals.{In-Mark, else-near-via-then-near+else-near-2, else-near-via-else-near}
 
-pub returns-in-default : goal.returns-in-default
-returns-in-default c =
-    formless (λ v w e. c.in-default.ensures (mark (signed_decimal v.x) (signed_decimal v.y)) (signed_lacks 9 v.x (omega arith) w.0) e)
+pub returns-in_default : goal.returns-in_default
+returns-in_default c =
+    formless (λ v w e. c.in_default.ensures (mark (signed_decimal v.x) (signed_decimal v.y)) (signed_lacks 9 v.x (omega arith) w.0) e)
 
-pub returns-in-default-line : goal.returns-in-default-line
-returns-in-default-line c = formless (search rules)
+pub returns-in_default-line : goal.returns-in_default-line
+returns-in_default-line c = formless (search rules)
 
 fields : (c : In-Mark) → Lacks 9 c.in-Mark.x.now × (c.args.bytes.now ≡ spelled (mark c.in-Mark.x.now c.in-Mark.y.now))
 fields c = subst (λ l. Parted (shape l) × (c.args.bytes.now ≡ spelled (shape l))) c.in-Mark.is c.in-Some.ensures
 
-pub returns-in-default-coordinate : goal.returns-in-default-coordinate
-returns-in-default-coordinate c =
-    formless (λ v w e. c.in-default-coordinate.ensures v.x w.0 (same_mark _ _ _ v.x v.y (fields (goal.at.returns-in-default-coordinate c).In-Mark) w.0 e).0)
+pub returns-in_default-coordinate : goal.returns-in_default-coordinate
+returns-in_default-coordinate c =
+    formless (λ v w e. c.in_default-coordinate.ensures v.x w.0 (same_mark _ _ _ v.x v.y (fields (goal.at.returns-in_default-coordinate c).In-Mark) w.0 e).0)
 
-pub returns-in-default-coordinate-2 : goal.returns-in-default-coordinate-2
-returns-in-default-coordinate-2 c =
-    formless (λ v w e. c.in-default-coordinate-2.ensures v.y w.1 (same_mark _ _ _ v.x v.y (fields (goal.at.returns-in-default-coordinate-2 c).In-Mark) w.0 e).1)
+pub returns-in_default-coordinate-2 : goal.returns-in_default-coordinate-2
+returns-in_default-coordinate-2 c =
+    formless (λ v w e. c.in_default-coordinate-2.ensures v.y w.1 (same_mark _ _ _ v.x v.y (fields (goal.at.returns-in_default-coordinate-2 c).In-Mark) w.0 e).1)
 
 pub returns-else-near : goal.returns-else-near
 returns-else-near c =

@@ -3,8 +3,8 @@ use Rattle.std.proofs.lemmas.List.{nil_from_length}
 use Rattle.sheet.specs.Forms.{ended, unended}
 use Rattle.sheet.proofs.entries.next_line.Goals as goal
 
-pub returns-then-is-empty : goal.returns-then-is-empty
-returns-then-is-empty c = ended (nil_from_length _ (true-eqb _ 0 c.if-is-empty.ensures))
+pub returns-then-is_empty : goal.returns-then-is_empty
+returns-then-is_empty c = ended (nil_from_length _ (true-eqb _ 0 c.if-is_empty.ensures))
 
 pub returns-in-None : goal.returns-in-None
-returns-in-None c = unended (λ e. false-eqb _ 0 c.if-is-empty.ensures (ap length e)) c.in-None.ensures
+returns-in-None c = unended (λ e. false-eqb _ 0 c.if-is_empty.ensures (ap length e)) c.in-None.ensures

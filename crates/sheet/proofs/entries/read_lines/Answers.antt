@@ -7,15 +7,15 @@ use Rattle.sheet.proofs.Forms.{stop_missed, stop_judged, stop_surplus, upto_set,
 use Rattle.sheet.specs.Turnings.{Rises, triple_rises}
 use Rattle.sheet.proofs.entries.read_lines.Goals as goal
 
-pub returns-in-err-bytes : goal.returns-in-err-bytes
-returns-in-err-bytes g c =
+pub returns-in_err-bytes : goal.returns-in_err-bytes
+returns-in_err-bytes g c =
     let p = err_from_is_err_and c.from-residual.result c.from-residual.ensures.1 in
-    rw (p.1, p.2) (stop_missed _ _ _ _ _ c.loop-at.invariant.0 _ (length-take-le _ _ (omega arith)) c.loop-at-test.true _ c.in-err-bytes.ensures)
+    rw (p.1, p.2) (stop_missed _ _ _ _ _ c.loop-at.invariant.0 _ (length-take-le _ _ (omega arith)) c.loop-at-test.true _ c.in_err-bytes.ensures)
 
-pub returns-in-err-list : goal.returns-in-err-list
-returns-in-err-list g c =
-    let p = err_from_is_err_and c.from-residual-in-err-list.result c.from-residual-in-err-list.ensures.1 in
-    rw (p.1, p.2) (stop_judged _ _ _ _ _ c.loop-at.invariant.0 _ (length-take-le _ _ (omega arith)) (g.met.E.Entry.whole c.args.count c.loop-at.at) c.loop-at-test.true _ _ c.in-ok-bytes.ensures _ c.in-err-list.ensures)
+pub returns-in_err-list : goal.returns-in_err-list
+returns-in_err-list g c =
+    let p = err_from_is_err_and c.from-residual-in_err-list.result c.from-residual-in_err-list.ensures.1 in
+    rw (p.1, p.2) (stop_judged _ _ _ _ _ c.loop-at.invariant.0 _ (length-take-le _ _ (omega arith)) (g.met.E.Entry.whole c.args.count c.loop-at.at) c.loop-at-test.true _ _ c.in_ok-bytes.ensures _ c.in_err-list.ensures)
 
 pub following-triple-requires : goal.following-triple-requires
 following-triple-requires g c =
@@ -24,13 +24,13 @@ following-triple-requires g c =
 
 pub loop-at-preserved : goal.loop-at-preserved
 loop-at-preserved g c = (
-  upto_set _ _ c.loop-at.list c.loop-at.at _ _ _ _ (omega arith) c.loop-at.invariant.0 c.in-ok-list.ensures c.in-ok-bytes.ensures.1,
+  upto_set _ _ c.loop-at.list c.loop-at.at _ _ _ _ (omega arith) c.loop-at.invariant.0 c.in_ok-list.ensures c.in_ok-bytes.ensures.1,
   c.following-triple.ensures ∙ ap (after c.args.count) c.loop-at.invariant.1 ∙ ap (triple_at c.args.count) (sym (add-one c.loop-at.at)),
 )
 
 pub returns : goal.returns
 returns g c =
-    MatchResult-weaker c.at-end.result c.at-end.ensures
+    MatchResult-weaker c.at_end.result c.at_end.ensures
     (λ _ none. upto_all _ _ _ c.loop-at.at c.args.due _ (omega arith) (nil_from_length _ none) c.loop-at.invariant.0)
     (λ e more.
     subst (Stops (g.E.Entry.form c.args.count) c.args.due c.args.text.now) (sym more.1)

@@ -5,18 +5,18 @@ use Rattle.sheet.specs.Sheets.{sixes, turn_line}
 use Rattle.sheet.specs.Triples.{triple_at}
 use Rattle.sheet.specs.Turnings.{same_turn, turn_parted}
 use Rattle.sheet.proofs.entries.turning.Goals as goal
-use Rattle.sheet.proofs.entries.turning.Goals.{else-is-number-via-then-is-number+then-is-number-2+else-is-number-3, else-is-number-via-then-is-number+else-is-number-2, else-is-number-via-else-is-number}
+use Rattle.sheet.proofs.entries.turning.Goals.{else-is_number-via-then-is_number+then-is_number-2+else-is_number-3, else-is_number-via-then-is_number+else-is_number-2, else-is_number-via-else-is_number}
 
-pub returns-in-default : goal.returns-in-default
-returns-in-default c =
+pub returns-in_default : goal.returns-in_default
+returns-in_default c =
     let t = triple_at c.args.spot.count c.args.spot.at in
-    formless (λ v w e. c.in-default.ensures (turning (decimal t.i) (decimal t.j) (decimal t.k) v) (turn_parted t v w) e)
+    formless (λ v w e. c.in_default.ensures (turning (decimal t.i) (decimal t.j) (decimal t.k) v) (turn_parted t v w) e)
 
-pub returns-in-default-line : goal.returns-in-default-line
-returns-in-default-line c = formless (search rules)
+pub returns-in_default-line : goal.returns-in_default-line
+returns-in_default-line c = formless (search rules)
 
-pub returns-else-is-number : goal.returns-else-is-number
-returns-else-is-number c =
+pub returns-else-is_number : goal.returns-else-is_number
+returns-else-is_number c =
     formless (λ v w e.
     let bs = c.args.bytes.now in
     let t = c.args.spot.triple in
@@ -26,8 +26,8 @@ returns-else-is-number c =
     subst (λ l. Parted (shape l) × (bs ≡ spelled (shape l))) line.is c.in-Some.ensures in
     let six : sixes t = subst sixes back w in
     let same = same_turn bs _ _ _ _ t v is six (subst (λ u. bs ≡ turn_line u v) back e) in
-    elim c.else-is-number.branch [
-      | else-is-number-via-then-is-number+then-is-number-2+else-is-number-3 w ↦ w.if-is-number-3.ensures six.2 same.2
-      | else-is-number-via-then-is-number+else-is-number-2 w ↦ w.if-is-number-2.ensures six.1 same.1
-      | else-is-number-via-else-is-number w ↦ w.if-is-number.ensures six.0 same.0
+    elim c.else-is_number.branch [
+      | else-is_number-via-then-is_number+then-is_number-2+else-is_number-3 w ↦ w.if-is_number-3.ensures six.2 same.2
+      | else-is_number-via-then-is_number+else-is_number-2 w ↦ w.if-is_number-2.ensures six.1 same.1
+      | else-is_number-via-else-is_number w ↦ w.if-is_number.ensures six.0 same.0
     ])

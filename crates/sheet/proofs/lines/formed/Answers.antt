@@ -21,16 +21,16 @@ returns-in-T c = (tt, begins (goal.at.returns-in-T c).After-from 84 c.in-T.is)
 pub returns-in-c : goal.returns-in-c
 returns-in-c c = (tt, begins (goal.at.returns-in-c c).After-from 99 c.in-c.is)
 
-pub returns-in-ok-x : goal.returns-in-ok-x
-returns-in-ok-x c =
-    let told = c.in-ok-x.ensures in
-    (told.0, begins (goal.at.returns-in-ok-x c).After-from 109 c.in-m.is ∙ ap (λ l. 109 ∷ 9 ∷ l) told.1)
+pub returns-in_ok-x : goal.returns-in_ok-x
+returns-in_ok-x c =
+    let told = c.in_ok-x.ensures in
+    (told.0, begins (goal.at.returns-in_ok-x c).After-from 109 c.in-m.is ∙ ap (λ l. 109 ∷ 9 ∷ l) told.1)
 
-pub returns-in-err-x : goal.returns-in-err-x
-returns-in-err-x c =
-    rw (c.from-residual.ensures, begins (goal.at.returns-in-err-x c).After-from 109 c.in-m.is)
-    (only_mark _ (λ x y l e. cut_none _ x y c.in-err-x.ensures e))
+pub returns-in_err-x : goal.returns-in_err-x
+returns-in_err-x c =
+    rw (c.from-residual.ensures, begins (goal.at.returns-in_err-x c).After-from 109 c.in-m.is)
+    (only_mark _ (λ x y l e. cut_none _ x y c.in_err-x.ensures e))
 
 pub returns-in-t : goal.returns-in-t
 returns-in-t c =
-    subst (λ bs. Says Parted spelled bs (option_map shape c.turning-fields.result)) (sym (begins (goal.at.returns-in-t c).After-from 116 c.in-t.is)) c.turning-fields.ensures
+    subst (λ bs. Says Parted spelled bs (option_map shape c.turning_fields.result)) (sym (begins (goal.at.returns-in-t c).After-from 116 c.in-t.is)) c.turning_fields.ensures

@@ -3,19 +3,19 @@ use Rattle.std.specs.Char.{digit_value}
 use Rattle.sheet.specs.FieldsLemmas.{digit_value_at, sofar_small, sofar_more, sofar_all}
 use Rattle.sheet.proofs.numbers.digits.Goals as goal
 
-pub overflow-mul-n : goal.overflow-mul-n
-overflow-mul-n c = omega (arith, sofar_small _ _ _ c.requires c.loop-b-test.true c.loop-b.invariant)
+pub overflow_mul-n : goal.overflow_mul-n
+overflow_mul-n c = omega (arith, sofar_small _ _ _ c.requires c.loop-b-test.true c.loop-b.invariant)
 
-pub returns-in-err-n : goal.returns-in-err-n
-returns-in-err-n c =
+pub returns-in_err-n : goal.returns-in_err-n
+returns-in_err-n c =
     rw c.from-residual.ensures
-    (λ ds. c.in-err-n.ensures.value (subst (λ x. digit_value x < 10) (sym c.from.ensures) (digit_value_at _ _ ds c.loop-b-test.true)))
+    (λ ds. c.in_err-n.ensures.value (subst (λ x. digit_value x < 10) (sym c.from.ensures) (digit_value_at _ _ ds c.loop-b-test.true)))
 
-pub overflow-add-n : goal.overflow-add-n
-overflow-add-n c = omega (arith, sofar_small _ _ _ c.requires c.loop-b-test.true c.loop-b.invariant, c.in-ok-n.ensures.value.0, c.in-ok-n.ensures.value.1)
+pub overflow_add-n : goal.overflow_add-n
+overflow_add-n c = omega (arith, sofar_small _ _ _ c.requires c.loop-b-test.true c.loop-b.invariant, c.in_ok-n.ensures.value.0, c.in_ok-n.ensures.value.1)
 
 pub loop-b-preserved : goal.loop-b-preserved
-loop-b-preserved c = sofar_more _ _ _ c.requires c.loop-b-test.true c.loop-b.invariant _ _ c.from.ensures c.in-ok-n.ensures.value
+loop-b-preserved c = sofar_more _ _ _ c.requires c.loop-b-test.true c.loop-b.invariant _ _ c.from.ensures c.in_ok-n.ensures.value
 
 pub returns : goal.returns
 returns c = sofar_all _ _ _ c.loop-b-test.false c.loop-b.invariant

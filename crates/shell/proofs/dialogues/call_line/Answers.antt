@@ -6,9 +6,9 @@ use Rattle.shell.proofs.dialogues.call_line.Goals as goal
 pub returns : goal.returns
 returns g c =
     let old = c.args.hull.now in
-    let new = c.answer-call.new.hull in
+    let new = c.answer_call.new.hull in
     record {
-      called = called_line c.push-str.result (g.S.CcSystem.meaning old.system) (held old.state.records) (held new.state.records) c.args.verb c.args.number (string_bytes c.args.out.now) (string_bytes c.put.new.out) (string_bytes c.answer-call.new.out) (string_bytes c.push-str.new.self)
-          c.word.result.now c.word.ensures.word c.in-ok-put.ensures.put c.in-ok-answer-call.ensures.answered c.push-str.ensures.bytes;
-      system = c.answer-call.ensures.system;
+      called = called_line c.push_str.result (g.S.CcSystem.meaning old.system) (held old.state.records) (held new.state.records) c.args.verb c.args.number (string_bytes c.args.out.now) (string_bytes c.put.new.out) (string_bytes c.answer_call.new.out) (string_bytes c.push_str.new.self)
+          c.word.result.now c.word.ensures.word c.in_ok-put.ensures.put c.in_ok-answer_call.ensures.answered c.push_str.ensures.bytes;
+      system = c.answer_call.ensures.system;
     }

@@ -11,18 +11,18 @@ loop-entry-init c = λ o says. subst (Says SomeNames joined c.args.text.now) (sy
 pub loop-entry-smaller : goal.loop-entry-smaller
 loop-entry-smaller c = after_shorter _ _ _ _ c.in-Some.ensures.1
 
-pub returns-in-default-number : goal.returns-in-default-number
-returns-in-default-number c = record { names = c.loop-entry.invariant None (entry_bad _ _ _ c.in-Some.ensures c.in-default-number.ensures) }
+pub returns-in_default-number : goal.returns-in_default-number
+returns-in_default-number c = record { names = c.loop-entry.invariant None (entry_bad _ _ _ c.in-Some.ensures c.in_default-number.ensures) }
 
 pub loop-entry-preserved : goal.loop-entry-preserved
 loop-entry-preserved c = λ o says.
-    subst (Says SomeNames joined c.args.text.now) (put_twice (vec_items c.loop-entry.names) (c.in-Some-number.name ∷ []) o ∙ ap (λ l. put_before l o) (sym c.in-ok-push.ensures.items))
+    subst (Says SomeNames joined c.args.text.now) (put_twice (vec_items c.loop-entry.names) (c.in-Some-number.name ∷ []) o ∙ ap (λ l. put_before l o) (sym c.in_ok-push.ensures.items))
     (c.loop-entry.invariant (put_before (c.in-Some-number.name ∷ []) o) (entry_good _ _ _ c.in-Some.ensures _ c.in-Some-number.ensures o says))
 
-pub returns-in-default-number-2 : goal.returns-in-default-number-2
-returns-in-default-number-2 c = record { names = c.loop-entry.invariant None (last_bad _ c.in-default.ensures c.in-default-number-2.ensures) }
+pub returns-in_default-number-2 : goal.returns-in_default-number-2
+returns-in_default-number-2 c = record { names = c.loop-entry.invariant None (last_bad _ c.in_default.ensures c.in_default-number-2.ensures) }
 
 pub returns : goal.returns
 returns c =
     let n = c.in-Some-number-2.name in
-    record { names = subst (λ l. Says SomeNames joined c.args.text.now (Some l)) (sym c.in-ok-push-2.ensures.items) (c.loop-entry.invariant (Some (n ∷ [])) (last_good _ n c.in-Some-number-2.ensures)) }
+    record { names = subst (λ l. Says SomeNames joined c.args.text.now (Some l)) (sym c.in_ok-push-2.ensures.items) (c.loop-entry.invariant (Some (n ∷ [])) (last_good _ n c.in-Some-number-2.ensures)) }

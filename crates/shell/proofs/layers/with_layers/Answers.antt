@@ -9,10 +9,10 @@ pub returns-in-Mirror : goal.returns-in-Mirror
 returns-in-Mirror g c =
     let μ = g.S.CcSystem.meaning in
     record {
-      layered = made_so c.with-layer.result
+      layered = made_so c.with_layer.result
           (λ out h. mirror_layered c.args.script.now (μ c.args.system) (layer_of c.args.first.now) (layer_of c.args.second.now ∷ []) (string_bytes out) (mirrored (μ c.over.result.below))
           (ap (λ s. mirrored (μ s)) c.over.ensures.below) (ap layer_of c.in-Mirror.is) h)
-          c.with-layer.ensures.layered;
+          c.with_layer.ensures.layered;
     }
 
 pub returns-in-Some : goal.returns-in-Some
@@ -30,8 +30,8 @@ returns-in-None g c =
     let μ = g.S.CcSystem.meaning in
     let r = c.over-renaming.result in
     record {
-      layered = made_so c.with-layer-in-None.result
+      layered = made_so c.with_layer-in-None.result
           (λ out h. renaming_layered c.args.script.now (μ c.args.system) (layer_of c.args.first.now) (layer_of c.args.second.now ∷ []) (string_bytes out) (renamed (μ r.below) (take r.len r.names)) (vec_items c.in-Renaming.names) c.deref.result.now r.fault
           (ap layer_of c.in-Renaming.is) c.deref.ensures.value c.over-renaming.ensures.judged (sym c.fault.ensures.fault ∙ c.in-None.is) c.over-renaming.ensures.system h)
-          c.with-layer-in-None.ensures.layered;
+          c.with_layer-in-None.ensures.layered;
     }

@@ -6,41 +6,41 @@ use Rattle.shell.specs.Layered.{bare, no_word}
 use Rattle.shell.proofs.Talking.{by_one, by_unknown, by_unknown_first, by_two, by_unknown_second}
 use Rattle.shell.proofs.layers.with_words.Goals as goal
 
-pub returns-then-is-empty : goal.returns-then-is-empty
-returns-then-is-empty g c = record { talk = made_so c.converse.result (λ out h. no_word (nil_from_length _ (eqb-true _ 0 (sym c.is-empty.ensures ∙ c.if-is-empty.true))) (bare h)) c.converse.ensures.dialogue }
+pub returns-then-is_empty : goal.returns-then-is_empty
+returns-then-is_empty g c = record { talk = made_so c.converse.result (λ out h. no_word (nil_from_length _ (eqb-true _ 0 (sym c.is_empty.ensures ∙ c.if-is_empty.true))) (bare h)) c.converse.ensures.dialogue }
 
 pub returns-in-Some-2 : goal.returns-in-Some-2
 returns-in-Some-2 g c =
-    record { talk = made_so c.with-layer.result (λ out h. by_one _ _ _ _ c.in-ok-layer.field-0 c.in-Some-2.layer c.in-ok-layer.ensures.layer c.in-Some-2.is h) c.with-layer.ensures.layered }
+    record { talk = made_so c.with_layer.result (λ out h. by_one _ _ _ _ c.in_ok-layer.field-0 c.in-Some-2.layer c.in_ok-layer.ensures.layer c.in-Some-2.is h) c.with_layer.ensures.layered }
 
 pub returns-in-None : goal.returns-in-None
 returns-in-None g c =
     record {
-      talk = made_so c.no-layer.result
-          (λ out e. by_unknown _ _ _ (string_bytes out) c.in-ok-layer.field-0 (λ z. eqb-false _ 0 (sym c.is-empty.ensures ∙ c.if-is-empty.false) (ap length z)) c.in-default.ensures c.in-ok-layer.ensures.layer c.in-None.is e)
-          c.no-layer.ensures.line;
+      talk = made_so c.no_layer.result
+          (λ out e. by_unknown _ _ _ (string_bytes out) c.in_ok-layer.field-0 (λ z. eqb-false _ 0 (sym c.is_empty.ensures ∙ c.if-is_empty.false) (ap length z)) c.in_default.ensures c.in_ok-layer.ensures.layer c.in-None.is e)
+          c.no_layer.ensures.line;
     }
 
-pub returns-in-default-2 : goal.returns-in-default-2
-returns-in-default-2 g c =
+pub returns-in_default-2 : goal.returns-in_default-2
+returns-in_default-2 g c =
     record {
-      talk = made_so c.no-layer-in-default-2.result
-          (λ out e. by_unknown_first _ _ _ (string_bytes out) _ _ c.in-Some.ensures c.in-ok-first.field-0 c.in-ok-first.ensures.layer c.in-default-2.is e)
-          c.no-layer-in-default-2.ensures.line;
+      talk = made_so c.no_layer-in_default-2.result
+          (λ out e. by_unknown_first _ _ _ (string_bytes out) _ _ c.in-Some.ensures c.in_ok-first.field-0 c.in_ok-first.ensures.layer c.in_default-2.is e)
+          c.no_layer-in_default-2.ensures.line;
     }
 
 pub returns-in-Some-4 : goal.returns-in-Some-4
 returns-in-Some-4 g c =
     record {
-      talk = made_so c.with-layers.result
-          (λ out h. by_two _ _ _ (string_bytes out) _ _ c.in-Some.ensures c.in-ok-first.field-0 c.in-ok-first.ensures.layer c.in-Some-3.first c.in-Some-3.is c.in-ok-second.field-0 c.in-ok-second.ensures.layer c.in-Some-4.second c.in-Some-4.is h)
-          c.with-layers.ensures.layered;
+      talk = made_so c.with_layers.result
+          (λ out h. by_two _ _ _ (string_bytes out) _ _ c.in-Some.ensures c.in_ok-first.field-0 c.in_ok-first.ensures.layer c.in-Some-3.first c.in-Some-3.is c.in_ok-second.field-0 c.in_ok-second.ensures.layer c.in-Some-4.second c.in-Some-4.is h)
+          c.with_layers.ensures.layered;
     }
 
 pub returns-in-None-2 : goal.returns-in-None-2
 returns-in-None-2 g c =
     record {
-      talk = made_so c.no-layer-in-None-2.result
-          (λ out e. by_unknown_second _ _ _ (string_bytes out) _ _ c.in-Some.ensures c.in-ok-first.field-0 c.in-ok-first.ensures.layer c.in-Some-3.first c.in-Some-3.is c.in-ok-second.field-0 c.in-ok-second.ensures.layer c.in-None-2.is e)
-          c.no-layer-in-None-2.ensures.line;
+      talk = made_so c.no_layer-in-None-2.result
+          (λ out e. by_unknown_second _ _ _ (string_bytes out) _ _ c.in-Some.ensures c.in_ok-first.field-0 c.in_ok-first.ensures.layer c.in-Some-3.first c.in-Some-3.is c.in_ok-second.field-0 c.in_ok-second.ensures.layer c.in-None-2.is e)
+          c.no_layer-in-None-2.ensures.line;
     }

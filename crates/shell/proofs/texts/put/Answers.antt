@@ -7,7 +7,7 @@ use Rattle.shell.proofs.texts.put.Goals as goal
 pub returns : goal.returns
 returns c =
     record {
-      put = made_so c.put-numbers.result
-          (λ _ e. then (string_bytes c.args.out.now) (string_bytes c.push-str.new.self) (string_bytes c.put-numbers.new.out) c.args.word.now (tabbed c.args.numbers.now) c.in-ok-push-str.ensures.bytes e)
-          c.put-numbers.ensures.put;
+      put = made_so c.put_numbers.result
+          (λ _ e. then (string_bytes c.args.out.now) (string_bytes c.push_str.new.self) (string_bytes c.put_numbers.new.out) c.args.word.now (tabbed c.args.numbers.now) c.in_ok-push_str.ensures.bytes e)
+          c.put_numbers.ensures.put;
     }

@@ -4,4 +4,4 @@ use Rattle.models.proofs.Numbers.{pairs_few}
 use Rattle.systems.proofs.counts.pairs.Goals as goal
 
 pub returns : goal.returns
-returns c = rw c.saturating-sub.ensures record { number = refl; few = pairs_few c.args.n (omega arith) }
+returns c = rw c.saturating_sub.ensures record { number = refl; few = pairs_few c.args.n (omega arith) }

@@ -5,5 +5,5 @@ use Rattle.systems.proofs.counts.threes.Goals as goal
 
 pub returns : goal.returns
 returns c =
-    rw (c.saturating-sub.ensures, c.saturating-sub-2.ensures)
+    rw (c.saturating_sub.ensures, c.saturating_sub-2.ensures)
     record { number = refl; few = threes_few c.args.n (omega arith) }

@@ -6,22 +6,22 @@ use Rattle.systems.proofs.Bounded.{back, fits}
 use Rattle.systems.proofs.Differences.{weighted, two_terms, three_terms}
 use Rattle.systems.proofs.geometry.arms_determinant.Goals as goal
 
-pub overflow-mul-result : goal.overflow-mul-result
-overflow-mul-result c = fits w64 (weighted c.args.p.w c.minor-qr.result c.requires.p.w_short c.minor-qr.ensures.small) tt
+pub overflow_mul-result : goal.overflow_mul-result
+overflow_mul-result c = fits w64 (weighted c.args.p.w c.minor-qr.result c.requires.p.w_short c.minor-qr.ensures.small) tt
 
-pub overflow-mul-result-2 : goal.overflow-mul-result-2
-overflow-mul-result-2 c = fits w64 (weighted c.args.q.w c.minor-pr.result c.requires.q.w_short c.minor-pr.ensures.small) tt
+pub overflow_mul-result-2 : goal.overflow_mul-result-2
+overflow_mul-result-2 c = fits w64 (weighted c.args.q.w c.minor-pr.result c.requires.q.w_short c.minor-pr.ensures.small) tt
 
-pub overflow-mul-result-3 : goal.overflow-mul-result-3
-overflow-mul-result-3 c = fits w64 (weighted c.args.r.w c.minor-pq.result c.requires.r.w_short c.minor-pq.ensures.small) tt
+pub overflow_mul-result-3 : goal.overflow_mul-result-3
+overflow_mul-result-3 c = fits w64 (weighted c.args.r.w c.minor-pq.result c.requires.r.w_short c.minor-pq.ensures.small) tt
 
-pub overflow-sub-result : goal.overflow-sub-result
-overflow-sub-result c =
+pub overflow_sub-result : goal.overflow_sub-result
+overflow_sub-result c =
     fits w64 (two_terms c.args.p.w c.args.q.w c.args.r.w c.minor-qr.result c.minor-pr.result c.minor-pq.result
     c.requires.p.w_short c.requires.q.w_short c.requires.r.w_short c.minor-qr.ensures.small c.minor-pr.ensures.small c.minor-pq.ensures.small) tt
 
-pub overflow-add-result : goal.overflow-add-result
-overflow-add-result c =
+pub overflow_add-result : goal.overflow_add-result
+overflow_add-result c =
     fits w64 (three_terms c.args.p.w c.args.q.w c.args.r.w c.minor-qr.result c.minor-pr.result c.minor-pq.result
     c.requires.p.w_short c.requires.q.w_short c.requires.r.w_short c.minor-qr.ensures.small c.minor-pr.ensures.small c.minor-pq.ensures.small) tt
 

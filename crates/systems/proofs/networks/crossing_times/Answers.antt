@@ -21,14 +21,14 @@ module _ (c : goal.Else-lower-upper) where
       lower_is c.args.n c.args.crossings.now c.loop-t.t c.loop-t.wires (omega arith)
       (c.requires.1 c.loop-t.t c.loop-t-test.true) c.loop-t.invariant.2
 
-pub overflow-mul-times : goal.overflow-mul-times
-overflow-mul-times c = let h = low c in omega arith
+pub overflow_mul-times : goal.overflow_mul-times
+overflow_mul-times c = let h = low c in omega arith
 
-pub overflow-add-times : goal.overflow-add-times
-overflow-add-times c = let h = low c in omega arith
+pub overflow_add-times : goal.overflow_add-times
+overflow_add-times c = let h = low c in omega arith
 
-pub offset-bounds-times-upper : goal.offset-bounds-times-upper
-offset-bounds-times-upper c = let h = low c in omega arith
+pub offset_bounds-times-upper : goal.offset_bounds-times-upper
+offset_bounds-times-upper c = let h = low c in omega arith
 
 pub bounds-times-upper : goal.bounds-times-upper
 bounds-times-upper c = let h = low c in omega arith

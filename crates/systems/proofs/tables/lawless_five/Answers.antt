@@ -9,9 +9,9 @@ use Rattle.systems.proofs.tables.lawless_five.Goals as goal
 pub loop-e-preserved : goal.loop-e-preserved
 loop-e-preserved c = below_more _ _ c.loop-e.invariant (λ x.
     (five_among (table_turns c.args.n (map is_left c.args.turns.now)) c.args.n
-    c.loop-a.a c.loop-b.b c.loop-c.c c.loop-d.d c.loop-e.e c.five-pattern.result
-    (omega arith) (omega arith) (omega arith) (omega arith) (omega arith) c.five-pattern.ensures.value).1
-    (c.if-not-is-lawful-five.ensures.lawful.0 tt).1)
+    c.loop-a.a c.loop-b.b c.loop-c.c c.loop-d.d c.loop-e.e c.five_pattern.result
+    (omega arith) (omega arith) (omega arith) (omega arith) (omega arith) c.five_pattern.ensures.value).1
+    (c.if-not-is_lawful_five.ensures.lawful.0 tt).1)
 
 pub loop-d-preserved : goal.loop-d-preserved
 loop-d-preserved c = below_more _ _ c.loop-d.invariant (λ _ k h. c.loop-e.invariant k (omega arith))
@@ -25,18 +25,18 @@ loop-b-preserved c = below_more _ _ c.loop-b.invariant (λ _ k h. c.loop-c.invar
 pub loop-a-preserved : goal.loop-a-preserved
 loop-a-preserved c = below_more _ _ c.loop-a.invariant (λ k h. c.loop-b.invariant k (omega arith))
 
-pub returns-then-not-is-lawful-five : goal.returns-then-not-is-lawful-five
-returns-then-not-is-lawful-five c = record {
+pub returns-then-not-is_lawful_five : goal.returns-then-not-is_lawful_five
+returns-then-not-is_lawful_five c = record {
   first =
       first_five (turn_table c.args.n c.args.turns.now) c.loop-a.a c.loop-b.b c.loop-c.c c.loop-d.d c.loop-e.e
       c.loop-a.invariant c.loop-b.invariant c.loop-c.invariant c.loop-d.invariant c.loop-e.invariant
       (omega arith) (omega arith) (omega arith) (omega arith) (omega arith)
       (λ among.
-      c.if-not-is-lawful-five.ensures.lawful.1 (
-        omega (arith, c.five-pattern.ensures.bound),
+      c.if-not-is_lawful_five.ensures.lawful.1 (
+        omega (arith, c.five_pattern.ensures.bound),
         (five_among (table_turns c.args.n (map is_left c.args.turns.now)) c.args.n
-            c.loop-a.a c.loop-b.b c.loop-c.c c.loop-d.d c.loop-e.e c.five-pattern.result
-            (omega arith) (omega arith) (omega arith) (omega arith) (omega arith) c.five-pattern.ensures.value).0 among,
+            c.loop-a.a c.loop-b.b c.loop-c.c c.loop-d.d c.loop-e.e c.five_pattern.result
+            (omega arith) (omega arith) (omega arith) (omega arith) (omega arith) c.five_pattern.ensures.value).0 among,
       ));
 }
 

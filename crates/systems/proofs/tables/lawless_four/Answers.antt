@@ -9,9 +9,9 @@ use Rattle.systems.proofs.tables.lawless_four.Goals as goal
 pub loop-d-preserved : goal.loop-d-preserved
 loop-d-preserved c = below_more _ _ c.loop-d.invariant (λ x.
     (four_among (table_turns c.args.n (map is_left c.args.turns.now)) c.args.n
-    c.loop-a.a c.loop-b.b c.loop-c.c c.loop-d.d c.four-pattern.result
-    (omega arith) (omega arith) (omega arith) (omega arith) c.four-pattern.ensures.value).1
-    (c.if-not-is-lawful-four.ensures.lawful.0 tt).1)
+    c.loop-a.a c.loop-b.b c.loop-c.c c.loop-d.d c.four_pattern.result
+    (omega arith) (omega arith) (omega arith) (omega arith) c.four_pattern.ensures.value).1
+    (c.if-not-is_lawful_four.ensures.lawful.0 tt).1)
 
 pub loop-c-preserved : goal.loop-c-preserved
 loop-c-preserved c = below_more _ _ c.loop-c.invariant (λ _ k h. c.loop-d.invariant k (omega arith))
@@ -22,17 +22,17 @@ loop-b-preserved c = below_more _ _ c.loop-b.invariant (λ _ k h. c.loop-c.invar
 pub loop-a-preserved : goal.loop-a-preserved
 loop-a-preserved c = below_more _ _ c.loop-a.invariant (λ k h. c.loop-b.invariant k (omega arith))
 
-pub returns-then-not-is-lawful-four : goal.returns-then-not-is-lawful-four
-returns-then-not-is-lawful-four c = record {
+pub returns-then-not-is_lawful_four : goal.returns-then-not-is_lawful_four
+returns-then-not-is_lawful_four c = record {
   first =
       first_four (turn_table c.args.n c.args.turns.now) c.loop-a.a c.loop-b.b c.loop-c.c c.loop-d.d
       c.loop-a.invariant c.loop-b.invariant c.loop-c.invariant c.loop-d.invariant (omega arith) (omega arith) (omega arith) (omega arith)
       (λ among.
-      c.if-not-is-lawful-four.ensures.lawful.1 (
-        omega (arith, c.four-pattern.ensures.bound),
+      c.if-not-is_lawful_four.ensures.lawful.1 (
+        omega (arith, c.four_pattern.ensures.bound),
         (four_among (table_turns c.args.n (map is_left c.args.turns.now)) c.args.n
-            c.loop-a.a c.loop-b.b c.loop-c.c c.loop-d.d c.four-pattern.result
-            (omega arith) (omega arith) (omega arith) (omega arith) c.four-pattern.ensures.value).0 among,
+            c.loop-a.a c.loop-b.b c.loop-c.c c.loop-d.d c.four_pattern.result
+            (omega arith) (omega arith) (omega arith) (omega arith) c.four_pattern.ensures.value).0 among,
       ));
 }
 

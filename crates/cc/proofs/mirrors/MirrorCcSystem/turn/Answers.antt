@@ -9,5 +9,5 @@ returns g c =
     let s = c.args.self.now.below in
     record {
       told = subst (λ t. Told (mirrored (g.S.CcSystem.meaning s)) c.args.p c.args.q c.args.r (Some t)) (sym c.reversed.ensures.reversed)
-          (mirror_told (g.S.CcSystem.lawful s) c.args.p c.args.q c.args.r c.in-ok-turn.turn c.in-ok-turn.ensures.told);
+          (mirror_told (g.S.CcSystem.lawful s) c.args.p c.args.q c.args.r c.in_ok-turn.turn c.in_ok-turn.ensures.told);
     }

@@ -3,15 +3,18 @@ use Rattle.laws.specs.Layers.{unlike, past}
 use Rattle.cc.proofs.Naming.{filled_length, filled_front}
 use Rattle.cc.proofs.renamings.Renaming.holding.Goals as goal
 
-pub slice-bounds-names-end : goal.slice-bounds-names-end
-slice-bounds-names-end g c = c.requires.short
+pub slice_bounds-names-end : goal.slice_bounds-names-end
+slice_bounds-names-end g c = c.requires.short
 
-pub invariant-of-result : goal.invariant-of-result
-invariant-of-result g c =
-    let front = filled_front _ c.args.list.now _ c.copy-from-slice.ensures.after c.requires.short in (
-      filled_length _ c.args.list.now _ c.copy-from-slice.ensures.after c.requires.short,
-      (c.requires.short, (subst (λ l. T (unlike l)) (sym front) c.requires.apart, (c.past-largest-top.ensures.past ∙ ap past (sym front), tt))),
-    )
+pub invariant_of-result : goal.invariant_of-result
+invariant_of-result g c =
+    let front = filled_front _ c.args.list.now _ c.copy_from_slice.ensures.after c.requires.short in
+    record {
+      long = filled_length _ c.args.list.now _ c.copy_from_slice.ensures.after c.requires.short;
+      short = c.requires.short;
+      apart = subst (λ l. T (unlike l)) (sym front) c.requires.apart;
+      reach = c.past_largest-top.ensures.past ∙ ap past (sym front);
+    }
 
 pub returns : goal.returns
-returns g c = record { below = refl; fault = refl; names = filled_front _ c.args.list.now _ c.copy-from-slice.ensures.after c.requires.short }
+returns g c = record { below = refl; fault = refl; names = filled_front _ c.args.list.now _ c.copy_from_slice.ensures.after c.requires.short }

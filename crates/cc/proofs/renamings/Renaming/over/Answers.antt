@@ -1,4 +1,4 @@
-use Rattle.std.proofs.Common.{◌≡◌, ℕ, List, take, Some, None, sym, refl, subst, arith}
+use Rattle.std.proofs.Common.{take, Some, None, sym, refl, subst, arith}
 use Rattle.laws.specs.Systems.{Same}
 use Rattle.laws.specs.Layers.{renamed}
 use Rattle.laws.proofs.Names.{different_unlike, different_past}
@@ -15,7 +15,7 @@ returns-in-Some g c =
 pub holding-requires : goal.holding-requires
 holding-requires g c =
     let m = g.S.CcSystem.meaning c.args.below in
-    let j = c.in-default.ensures.judged in
+    let j = c.in_default.ensures.judged in
     let d = accepted_different j in
     record {
       short = accepted_short j;
@@ -30,7 +30,7 @@ returns g c =
     let r = c.holding.result in
     record {
       below = c.holding.ensures.below;
-      judged = subst (λ o. Judged m.count xs o) (sym c.holding.ensures.fault) (subst (λ n. Judged n xs None) c.count.ensures.marks c.in-default.ensures.judged);
+      judged = subst (λ o. Judged m.count xs o) (sym c.holding.ensures.fault) (subst (λ n. Judged n xs None) c.count.ensures.marks c.in_default.ensures.judged);
       system = subst (λ b. Same (renamed (g.S.CcSystem.meaning b) (take r.len r.names)) (renamed m xs)) (sym c.holding.ensures.below)
           (subst (λ l. Same (renamed m l) (renamed m xs)) (sym c.holding.ensures.names) (same_names m xs));
     }

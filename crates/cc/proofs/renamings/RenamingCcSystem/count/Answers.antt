@@ -1,4 +1,4 @@
-use Rattle.std.proofs.Common.{◌≡◌, ℕ, ◌<◌, ◌≤◌, length, take, arith, length-take}
+use Rattle.std.proofs.Common.{take, arith, length-take}
 use Rattle.cc.proofs.Naming.{count_shown, count_hidden}
 use Rattle.cc.proofs.renamings.RenamingCcSystem.count.Goals as goal
 

@@ -1,4 +1,4 @@
-use Rattle.std.proofs.Common.{◌≡◌, ℕ, ◌<◌, length, get_or, take, sym, subst, arith, length-take, get_or-take}
+use Rattle.std.proofs.Common.{◌≡◌, ℕ, ◌<◌, get_or, take, sym, subst, arith, length-take, get_or-take}
 use Rattle.laws.specs.Layers.{named, renamed}
 use Rattle.cc.specs.Turns.{Told}
 use Rattle.cc.proofs.Naming.{renamed_told, renamed_within}

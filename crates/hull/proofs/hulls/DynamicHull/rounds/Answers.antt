@@ -10,8 +10,8 @@ use Rattle.hull.proofs.hulls.DynamicHull.rounds.Goals as goal
 pub returns-then-list-count : goal.returns-then-list-count
 returns-then-list-count g c = record { answer = tight_by c.args.list.now c.count-count.result c.count-count.ensures.marks c.if-list-count.true }
 
-pub rounds-of-requires : goal.rounds-of-requires
-rounds-of-requires g c =
+pub rounds_of-requires : goal.rounds_of-requires
+rounds_of-requires g c =
     let h = c.args.self.now in
     let m = g.S.CcSystem.meaning h.system in
     record {
@@ -23,8 +23,8 @@ pub returns : goal.returns
 returns g c =
     let h = c.args.self.now in
     let m = g.S.CcSystem.meaning h.system in
-    let after = c.rounds-of.new.entries in
+    let after = c.rounds_of.new.entries in
     record {
-      answer = counts_by c.args.list.now after c.rounds-of.result (omega (arith, c.count-count.ensures.marks, c.if-list-count.false))
-          (subst (λ s. Rounds m s (take m.count after) c.rounds-of.result) (fun_ext c.flags-flags.ensures.flags) c.rounds-of.ensures.rounds) c.rounds-of.ensures.rest;
+      answer = counts_by c.args.list.now after c.rounds_of.result (omega (arith, c.count-count.ensures.marks, c.if-list-count.false))
+          (subst (λ s. Rounds m s (take m.count after) c.rounds_of.result) (fun_ext c.flags-flags.ensures.flags) c.rounds_of.ensures.rounds) c.rounds_of.ensures.rest;
     }

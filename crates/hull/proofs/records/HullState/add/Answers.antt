@@ -24,8 +24,8 @@ settle-requires g c =
     let L = g.S.CcSystem.lawful c.args.system.now in
     let s = held c.args.self.now.records in
     let x = c.args.x in
-    let x_in : x < m.count = c.in-default.ensures.admits.0 in
-    let (t, one) = with_it s x (λ h. subst T c.in-default.ensures.admits.1 h) in
+    let x_in : x < m.count = c.in_default.ensures.admits.0 in
+    let (t, one) = with_it s x (λ h. subst T c.in_default.ensures.admits.1 h) in
     record {
       recorded = recorded L (more_marks m one x_in c.requires.sound.marks) (c.grow-ring.ensures.grows s t c.requires.sound.marks c.requires.sound.is_ring one);
     }
@@ -38,14 +38,14 @@ returns g c =
     let new = c.settle.new.self in
     let ring = listed c.grow-ring.result in
     let x = c.args.x in
-    let x_in : x < m.count = c.in-default.ensures.admits.0 in
+    let x_in : x < m.count = c.in_default.ensures.admits.0 in
     let same : (p : ℕ) → held new.records p ≡ held (with_held old.records x true) p =
-    λ p. c.settle.ensures.marks p ∙ ap (λ rs. held rs p) c.set-in.ensures.records in
-    let one = held_added old.records new.records x (omega (arith, L.limit, old.long)) c.in-default.ensures.admits.1 same in
+    λ p. c.settle.ensures.marks p ∙ ap (λ rs. held rs p) c.set_in.ensures.records in
+    let one = held_added old.records new.records x (omega (arith, L.limit, old.long)) c.in_default.ensures.admits.1 same in
     let next = sound_added L old.records new.records x (listed old.ring) ring c.requires.sound x_in one c.grow-ring.ensures.grows c.settle.ensures.links in
     record {
       answers = subst (λ a. Answers m (held old.records) (add x) (added_answer (Ok a))) (sym c.by.ensures.by)
-          (adds_by L (held old.records) (held new.records) x (listed old.ring) ring c.requires.sound.marks x_in one c.requires.sound.is_ring next.is_ring c.exchanged-pushed-off.result c.exchanged-pushed-off.ensures.exchanged);
+          (adds_by L (held old.records) (held new.records) x (listed old.ring) ring c.requires.sound.marks x_in one c.requires.sound.is_ring next.is_ring c.exchanged-pushed_off.result c.exchanged-pushed_off.ensures.exchanged);
       marks = one;
       sound = subst (λ r. Sound m new.records (listed r)) (sym c.settle.ensures.ring) next;
     }

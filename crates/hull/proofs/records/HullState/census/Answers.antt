@@ -6,17 +6,17 @@ use Rattle.hull.specs.Words.{bit}
 use Rattle.hull.proofs.OfWords.{word_bit, word_ones, how_many_both}
 use Rattle.hull.proofs.records.HullState.census.Goals as goal
 
-pub overflow-add-result : goal.overflow-add-result
-overflow-add-result c = omega (arith, ones-le 64 c.word-low.result c.word-low.type-inv, ones-le 64 c.high-word-high.result c.high-word-high.type-inv)
+pub overflow_add-result : goal.overflow_add-result
+overflow_add-result c = omega (arith, ones-le 64 c.word-low.result c.word-low.type-inv, ones-le 64 c.high_word-high.result c.high_word-high.type-inv)
 
-pub overflow-cast-result : goal.overflow-cast-result
-overflow-cast-result c = omega (arith, ones-le 64 c.word-low.result c.word-low.type-inv, ones-le 64 c.high-word-high.result c.high-word-high.type-inv)
+pub overflow_cast-result : goal.overflow_cast-result
+overflow_cast-result c = omega (arith, ones-le 64 c.word-low.result c.word-low.type-inv, ones-le 64 c.high_word-high.result c.high_word-high.type-inv)
 
 pub returns : goal.returns
 returns c =
     let f : ℕ → Bool = held c.args.self.now.records in
     let low = c.word-low.ensures.word in
-    let high = c.high-word-high.ensures.word in
+    let high = c.high_word-high.ensures.word in
     record {
       census = record {
         low = λ k h. ap (λ w. bit w k) low ∙ word_bit f 0 64 k h ∙ ap f (zero-add k);

@@ -11,8 +11,8 @@ returns-in-Err g c =
     let m = g.S.CcSystem.meaning c.args.system.now in
     record { answers = not_held m (held c.args.self.now.records) c.args.x c.in-Err.fault to_neighbours of_neighbours c.in-Err.ensures.holds }
 
-pub returns-in-default-position : goal.returns-in-default-position
-returns-in-default-position g c = record { answers = off_the_edge (subst T (sym c.in-default.ensures.holds.1) tt) c.requires.sound.is_ring c.in-default-position.ensures.place }
+pub returns-in_default-position : goal.returns-in_default-position
+returns-in_default-position g c = record { answers = off_the_edge (subst T (sym c.in_default.ensures.holds.1) tt) c.requires.sound.is_ring c.in_default-position.ensures.place }
 
 pub returns : goal.returns
 returns g c =

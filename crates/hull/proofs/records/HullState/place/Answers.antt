@@ -14,4 +14,4 @@ returns-in-Some g c = record { answers = stands c.requires.sound.is_ring c.in-So
 
 pub returns : goal.returns
 returns g c =
-    record { answers = lies (subst T (sym c.in-default.ensures.holds.1) tt) c.requires.sound.is_ring c.in-default-position.ensures.place c.fan-a.ensures.fan }
+    record { answers = lies (subst T (sym c.in_default.ensures.holds.1) tt) c.requires.sound.is_ring c.in_default-position.ensures.place c.fan-a.ensures.fan }

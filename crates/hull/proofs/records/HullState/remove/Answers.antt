@@ -19,13 +19,13 @@ returns-in-Err g c =
       sound = c.requires.sound;
     }
 
-pub outline-of-ring-requires : goal.outline-of-ring-requires
-outline-of-ring-requires g c =
+pub outline_of-ring-requires : goal.outline_of-ring-requires
+outline_of-ring-requires g c =
     let m = g.S.CcSystem.meaning c.args.system.now in
     let L = g.S.CcSystem.lawful c.args.system.now in
     let old = c.args.self.now in
-    let mid = c.set-in.new.self in
-    let one = held_dropped old.records mid.records c.args.x (omega (arith, c.in-default.ensures.holds.0, L.limit, old.long)) c.in-default.ensures.holds.1 (λ p. ap (λ rs. held rs p) c.set-in.ensures.records) in
+    let mid = c.set_in.new.self in
+    let one = held_dropped old.records mid.records c.args.x (omega (arith, c.in_default.ensures.holds.0, L.limit, old.long)) c.in_default.ensures.holds.1 (λ p. ap (λ rs. held rs p) c.set_in.ensures.records) in
     record { marks = subst (λ s. Marks m (of s)) (sym (fun_ext c.flags-flags.ensures.flags)) (less_marks m one c.requires.sound.marks) }
 
 pub settle-requires : goal.settle-requires
@@ -33,9 +33,9 @@ settle-requires g c =
     let m = g.S.CcSystem.meaning c.args.system.now in
     let L = g.S.CcSystem.lawful c.args.system.now in
     let old = c.args.self.now in
-    let mid = c.set-in.new.self in
-    let one = held_dropped old.records mid.records c.args.x (omega (arith, c.in-default.ensures.holds.0, L.limit, old.long)) c.in-default.ensures.holds.1 (λ p. ap (λ rs. held rs p) c.set-in.ensures.records) in
-    record { recorded = recorded L (less_marks m one c.requires.sound.marks) (subst (λ s. RingOf m s (listed c.outline-of-ring.result)) (fun_ext c.flags-flags.ensures.flags) c.outline-of-ring.ensures.ring) }
+    let mid = c.set_in.new.self in
+    let one = held_dropped old.records mid.records c.args.x (omega (arith, c.in_default.ensures.holds.0, L.limit, old.long)) c.in_default.ensures.holds.1 (λ p. ap (λ rs. held rs p) c.set_in.ensures.records) in
+    record { recorded = recorded L (less_marks m one c.requires.sound.marks) (subst (λ s. RingOf m s (listed c.outline_of-ring.result)) (fun_ext c.flags-flags.ensures.flags) c.outline_of-ring.ensures.ring) }
 
 pub returns : goal.returns
 returns g c =
@@ -43,16 +43,16 @@ returns g c =
     let L = g.S.CcSystem.lawful c.args.system.now in
     let old = c.args.self.now in
     let new = c.settle.new.self in
-    let ring = listed c.outline-of-ring.result in
+    let ring = listed c.outline_of-ring.result in
     let x = c.args.x in
-    let x_in : x < m.count = c.in-default.ensures.holds.0 in
+    let x_in : x < m.count = c.in_default.ensures.holds.0 in
     let same : (p : ℕ) → held new.records p ≡ held (with_held old.records x false) p =
-    λ p. c.settle.ensures.marks p ∙ ap (λ rs. held rs p) c.set-in.ensures.records in
-    let one = held_dropped old.records new.records x (omega (arith, L.limit, old.long)) c.in-default.ensures.holds.1 same in
-    let new-ring = subst (λ s. RingOf m s ring) (fun_ext (λ p. c.flags-flags.ensures.flags p ∙ sym (c.settle.ensures.marks p))) c.outline-of-ring.ensures.ring in
+    λ p. c.settle.ensures.marks p ∙ ap (λ rs. held rs p) c.set_in.ensures.records in
+    let one = held_dropped old.records new.records x (omega (arith, L.limit, old.long)) c.in_default.ensures.holds.1 same in
+    let new-ring = subst (λ s. RingOf m s ring) (fun_ext (λ p. c.flags-flags.ensures.flags p ∙ sym (c.settle.ensures.marks p))) c.outline_of-ring.ensures.ring in
     let next = sound_dropped old.records new.records x (listed old.ring) ring c.requires.sound one new-ring c.settle.ensures.links in
     record {
-      answers = subst (λ n. Answers m (held old.records) (drop x) (dropped n)) (sym c.unwrap-or.ensures)
+      answers = subst (λ n. Answers m (held old.records) (drop x) (dropped n)) (sym c.unwrap_or.ensures)
           (drops_by L (held new.records) (held old.records) x ring (listed old.ring) next.marks x_in one new-ring c.requires.sound.is_ring c.exchanged.result c.exchanged.ensures.exchanged);
       marks = one;
       sound = subst (λ r. Sound m new.records (listed r)) (sym c.settle.ensures.ring) next;

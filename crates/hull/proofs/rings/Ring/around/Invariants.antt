@@ -7,4 +7,4 @@ abbrev pub invariant-loop-i : goal.invariant-loop-i
 invariant-loop-i g l =
     let sees = seen_by (g.S.CcSystem.meaning l.system) l.x in
     let ring = listed l.self in
-    listed l.new ++ grown sees l.x l.seen-to (drop l.i ring) (get_or ring 0 0) ≡ whole sees l.x ring
+    listed l.new ++ grown sees l.x l.seen_to (drop l.i ring) (get_or ring 0 0) ≡ whole sees l.x ring

@@ -6,8 +6,8 @@ use Rattle.hull.proofs.Lists.{listed_length, listed_at}
 use Rattle.hull.proofs.Fanning.{three_long, three_from, left_of_second, right_of_last, fan_at, goes_right, goes_left}
 use Rattle.hull.proofs.rings.Ring.fan.Goals as goal
 
-pub overflow-sub-high : goal.overflow-sub-high
-overflow-sub-high g c =
+pub overflow_sub-high : goal.overflow_sub-high
+overflow_sub-high g c =
     let r = c.args.self.now in
     omega (arith, listed_length r, three_long (g.S.CcSystem.lawful c.args.system.now) (listed r) c.args.x c.requires.within)
 
@@ -24,8 +24,8 @@ loop-low-init g c =
 middle_in : (low high n : ℕ) → 0 < low → low + 1 < high → high < n → (0 < low + (high - low) / 2) × (low < low + (high - low) / 2) × (low + (high - low) / 2 < high)
 middle_in low high n a b c = (omega arith, omega arith, omega arith)
 
-pub lies-right-requires : goal.lies-right-requires
-lies-right-requires g c =
+pub lies_right-requires : goal.lies_right-requires
+lies_right-requires g c =
     let r = c.args.self.now in
     let m = g.S.CcSystem.meaning c.args.system.now in
     let (pos, apart, inside, left, right) = c.loop-low.invariant in
@@ -38,8 +38,8 @@ lies-right-requires g c =
           (three_from (g.S.CcSystem.lawful c.args.system.now) (listed r) c.args.x c.requires.within middle p (omega (arith, listed_length r)));
     }
 
-pub loop-low-preserved-then-lies-right : goal.loop-low-preserved-then-lies-right
-loop-low-preserved-then-lies-right g c =
+pub loop-low-preserved-then-lies_right : goal.loop-low-preserved-then-lies_right
+loop-low-preserved-then-lies_right g c =
     let r = c.args.self.now in
     let m = g.S.CcSystem.meaning c.args.system.now in
     let (pos, apart, inside, left, right) = c.loop-low.invariant in
@@ -47,7 +47,7 @@ loop-low-preserved-then-lies-right g c =
     let high = c.loop-low.high in
     let (p, q, s) = middle_in low high r.len pos c.loop-low-test.true inside in
     let middle : ℕ = low + (high - low) / 2 in
-    let told = ap₂ (λ a b. m.left a c.args.x b) (sym (listed_at r 0 (omega arith))) (sym (listed_at r middle (omega arith))) ∙ sym c.if-lies-right.ensures.right in
+    let told = ap₂ (λ a b. m.left a c.args.x b) (sym (listed_at r 0 (omega arith))) (sym (listed_at r middle (omega arith))) ∙ sym c.if-lies_right.ensures.right in
     (pos, q, omega arith, left, goes_right (g.S.CcSystem.lawful c.args.system.now) (listed r) c.args.x c.requires.within middle p (omega (arith, listed_length r)) told)
 
 pub loop-low-preserved : goal.loop-low-preserved
@@ -59,7 +59,7 @@ loop-low-preserved g c =
     let high = c.loop-low.high in
     let (p, q, s) = middle_in low high r.len pos c.loop-low-test.true inside in
     let middle : ℕ = low + (high - low) / 2 in
-    let told = ap₂ (λ a b. m.left a c.args.x b) (sym (listed_at r 0 (omega arith))) (sym (listed_at r middle (omega arith))) ∙ sym c.if-lies-right.ensures.right in
+    let told = ap₂ (λ a b. m.left a c.args.x b) (sym (listed_at r 0 (omega arith))) (sym (listed_at r middle (omega arith))) ∙ sym c.if-lies_right.ensures.right in
     (p, s, inside, goes_left (g.S.CcSystem.lawful c.args.system.now) (listed r) c.args.x c.requires.within middle p (omega (arith, listed_length r)) told, right)
 
 pub returns : goal.returns

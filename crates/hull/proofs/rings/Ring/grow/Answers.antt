@@ -10,10 +10,10 @@ returns-then-self-lt2 g c =
     let r = c.args.self.now in
     let L = g.S.CcSystem.lawful c.args.system.now in
     let x = c.args.x in
-    let new = listed c.lowest-first.result in
+    let new = listed c.lowest_first.result in
     record {
       grows = grows_from L x (listed r) (listed r ++ x ∷ []) new c.requires.beside.x_in (few_round L x (listed r) (omega (arith, listed_length r, c.if-self-lt2.true)) c.requires.beside.x_in)
-          (subst (λ k. Turned k new) c.push.ensures.pushed c.lowest-first.ensures.same) c.lowest-first.ensures.lowest;
+          (subst (λ k. Turned k new) c.push.ensures.pushed c.lowest_first.ensures.same) c.lowest_first.ensures.lowest;
     }
 
 pub returns : goal.returns
@@ -21,6 +21,6 @@ returns g c =
     let r = c.args.self.now in
     let L = g.S.CcSystem.lawful c.args.system.now in
     record {
-      grows = grows_from L c.args.x (listed r) (listed c.around.result) (listed c.lowest-first-2.result) c.requires.beside.x_in c.around.ensures.around
-          c.lowest-first-2.ensures.same c.lowest-first-2.ensures.lowest;
+      grows = grows_from L c.args.x (listed r) (listed c.around.result) (listed c.lowest_first-2.result) c.requires.beside.x_in c.around.ensures.around
+          c.lowest_first-2.ensures.same c.lowest_first-2.ensures.lowest;
     }

@@ -5,8 +5,8 @@ use Rattle.hull.proofs.Lists.{listed_length, listed_at}
 use Rattle.hull.proofs.Growth.{three_at}
 use Rattle.hull.proofs.rings.Ring.is_seen.Goals as goal
 
-pub lies-right-requires : goal.lies-right-requires
-lies-right-requires g c =
+pub lies_right-requires : goal.lies_right-requires
+lies_right-requires g c =
     let r = c.args.self.now in
     let m = g.S.CcSystem.meaning c.args.system.now in
     record {
@@ -18,4 +18,4 @@ pub returns : goal.returns
 returns g c =
     let r = c.args.self.now in
     let m = g.S.CcSystem.meaning c.args.system.now in
-    record { seen = c.lies-right.ensures.right ∙ ap₂ (λ p q. m.left p c.args.x q) (listed_at r c.args.i c.requires.within) c.after.ensures.after }
+    record { seen = c.lies_right.ensures.right ∙ ap₂ (λ p q. m.left p c.args.x q) (listed_at r c.args.i c.requires.within) c.after.ensures.after }

@@ -29,8 +29,8 @@ loop-i-2-init c =
     c.loop-i.invariant ∙ ap (drop c.lowest-start.result) (take_all c.loop-i.i (listed r) (omega (arith, listed_length r, c.loop-i-test.false)))
     ∙ sym (append-nil (drop c.lowest-start.result (listed r)))
 
-pub offset-bounds-self-i-in-loop-i-2 : goal.offset-bounds-self-i-in-loop-i-2
-offset-bounds-self-i-in-loop-i-2 c = omega (arith, c.lowest-start.ensures.within.0, c.args.self.now.few)
+pub offset_bounds-self-i-in-loop-i-2 : goal.offset_bounds-self-i-in-loop-i-2
+offset_bounds-self-i-in-loop-i-2 c = omega (arith, c.lowest-start.ensures.within.0, c.args.self.now.few)
 
 pub bounds-self-i-in-loop-i-2 : goal.bounds-self-i-in-loop-i-2
 bounds-self-i-in-loop-i-2 c = omega (arith, c.lowest-start.ensures.within.0, c.args.self.now.few)

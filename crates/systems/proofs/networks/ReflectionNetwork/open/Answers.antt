@@ -17,8 +17,8 @@ returns-in-Err c =
       holds = subst (Holds n cs w.count w.crossings.now) (sym c.refused.ensures.fault) c.refused.ensures.empty;
     }
 
-pub invariant-of-result : goal.invariant-of-result
-invariant-of-result c =
+pub invariant_of-result : goal.invariant_of-result
+invariant_of-result c =
     let h = c.in-Ok.ensures.judged in
     let a = (accepts c.args.count c.args.crossings.now _ h.0).0 refl in
     (a.0, (a.1.legal, (h.1, (λ i j x y. subst T (sym (eq-eqb _ _ (h.2 i j x y))) tt, tt))))

@@ -10,28 +10,28 @@ use Rattle.systems.proofs.stars.Star.counterclockwise.Goals as goal
 centre_in : (ps : List Place) (c p : ℕ) → ∥ Clear ps c ∥₁ → p < length ps - 1 → (c < length ps) × (length ps ≤ 128)
 centre_in ps c p t l = let g = clear ps c t in (g.centre (omega arith), g.good.few)
 
-pub offset-bounds-self-self : goal.offset-bounds-self-self
-offset-bounds-self-self c = let h = centre_in _ _ c.args.p c.args.self.now.clear c.requires.p_in in omega arith
+pub offset_bounds-self-self : goal.offset_bounds-self-self
+offset_bounds-self-self c = let h = centre_in _ _ c.args.p c.args.self.now.clear c.requires.p_in in omega arith
 
 pub bounds-self-self : goal.bounds-self-self
 bounds-self-self c = (centre_in _ _ c.args.p c.args.self.now.clear c.requires.p_in).0
 
-pub star-determinant-requires : goal.star-determinant-requires
-star-determinant-requires c =
+pub star_determinant-requires : goal.star_determinant-requires
+star_determinant-requires c =
     let g = clear c.args.self.now.places.now c.args.self.now.centre c.args.self.now.clear in
     record {
       c = g.good.near c.args.self.now.centre (centre_in _ _ c.args.p c.args.self.now.clear c.requires.p_in).0;
-      p = g.good.near c.point-of-x.result c.point-of-x.ensures.within;
-      q = g.good.near c.point-of-y.result c.point-of-y.ensures.within;
-      r = g.good.near c.point-of-z.result c.point-of-z.ensures.within;
+      p = g.good.near c.point_of-x.result c.point_of-x.ensures.within;
+      q = g.good.near c.point_of-y.result c.point_of-y.ensures.within;
+      r = g.good.near c.point_of-z.result c.point_of-z.ensures.within;
     }
 
 pub returns : goal.returns
 returns c =
     let ps = c.args.self.now.places.now in
     let o = c.args.self.now.centre in
-    let e : _ = (λ i. det (seen (place ps o) (place ps (c.point-of-x.ensures.meant i))) (seen (place ps o) (place ps (c.point-of-y.ensures.meant i))) (seen (place ps o) (place ps (c.point-of-z.ensures.meant i)))) in
+    let e : _ = (λ i. det (seen (place ps o) (place ps (c.point_of-x.ensures.meant i))) (seen (place ps o) (place ps (c.point_of-y.ensures.meant i))) (seen (place ps o) (place ps (c.point_of-z.ensures.meant i)))) in
     record {
-      turns = sided (star ps o) c.args.p c.args.q c.args.r c.requires c.star-determinant.result c.star-determinant.type-inv
-          (ap positive (sym (c.star-determinant.ensures.exact ∙ e)));
+      turns = sided (star ps o) c.args.p c.args.q c.args.r c.requires c.star_determinant.result c.star_determinant.type-inv
+          (ap positive (sym (c.star_determinant.ensures.exact ∙ e)));
     }

@@ -17,14 +17,14 @@ returns-in-Some c =
       holds = subst (Holds n ts t.count t.turns.now) (sym c.refused.ensures.fault) c.refused.ensures.empty;
     }
 
-pub invariant-of-result : goal.invariant-of-result
-invariant-of-result c =
-    let h = (accepts c.args.count c.args.turns.now _ c.in-default.ensures.judged).0 refl in
+pub invariant_of-result : goal.invariant_of-result
+invariant_of-result c =
+    let h = (accepts c.args.count c.args.turns.now _ c.in_default.ensures.judged).0 refl in
     (h.0.few, (h.0.long, (table_tested c.args.count c.args.turns.now h.0 h.1, tt)))
 
 pub returns : goal.returns
 returns c = record {
-  judged = c.in-default.ensures.judged;
-  lawful = accepts c.args.count c.args.turns.now _ c.in-default.ensures.judged;
+  judged = c.in_default.ensures.judged;
+  lawful = accepts c.args.count c.args.turns.now _ c.in_default.ensures.judged;
   holds = (refl, refl);
 }
