@@ -40,8 +40,8 @@ fn start() -> [usize; 32]
 // Follows the wires through the crossings: the entry at which each pair crosses, in row i at j for i < j,
 // or else the first illegal crossing.
 fn crossing_times(n: usize, crossings: &[usize]) -> Result<[u16; 1024], usize>
-    requires n_bound { (n ≤ 32) × (length crossings.now ≡ pairs_of n) }
-    requires by_index { (t : ℕ) → t < length crossings.now → InRange n crossings.now t }
+    requires whole { (n ≤ 32) × (length crossings.now ≡ pairs_of n) }
+    requires in_range { (t : ℕ) → t < length crossings.now → InRange n crossings.now t }
     ensures times { MatchResult result (λ times. Network n crossings.now × (length times ≡ 1024) × Timed n crossings.now times) (λ t. FirstWithout (Legal crossings.now) (length crossings.now) t) }
 {
     let mut wires = start();

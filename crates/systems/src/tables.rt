@@ -27,7 +27,7 @@ fn entry(n: usize, i: usize, j: usize, k: usize) -> usize
 
 // Whether i < j < k turn left.
 fn turns_left(n: usize, turns: &[Turn], i: usize, j: usize, k: usize) -> bool
-    requires i_lt_j { (i < j) × (j < k) × (k < n) }
+    requires rising { (i < j) × (j < k) × (k < n) }
     requires fits { Fits n turns.now }
     ensures left { result ≡ table_turns n (map is_left turns.now) i j k }
 {
@@ -48,7 +48,7 @@ fn before(left: bool, rest: u16) -> u16
 
 // The pattern of four marks in rising order.
 fn four_pattern(n: usize, turns: &[Turn], a: usize, b: usize, c: usize, d: usize) -> u16
-    requires a_lt_b { (a < b) × (b < c) × (c < d) × (d < n) }
+    requires rising { (a < b) × (b < c) × (c < d) × (d < n) }
     requires fits { Fits n turns.now }
     ensures value { result ≡ pattern 4 (table_turns n (map is_left turns.now)) (a ∷ b ∷ c ∷ d ∷ []) }
     ensures bound { result < 16 }
@@ -61,7 +61,7 @@ fn four_pattern(n: usize, turns: &[Turn], a: usize, b: usize, c: usize, d: usize
 
 // The pattern of five marks in rising order.
 fn five_pattern(n: usize, turns: &[Turn], a: usize, b: usize, c: usize, d: usize, e: usize) -> u16
-    requires a_lt_b { (a < b) × (b < c) × (c < d) × (d < e) × (e < n) }
+    requires rising { (a < b) × (b < c) × (c < d) × (d < e) × (e < n) }
     requires fits { Fits n turns.now }
     ensures value { result ≡ pattern 5 (table_turns n (map is_left turns.now)) (a ∷ b ∷ c ∷ d ∷ e ∷ []) }
     ensures bound { result < 1024 }

@@ -11,5 +11,5 @@ returns-in_default c = no_head _ c.if-not-is_short.ensures c.in_default.ensures
 
 pub returns-in_err-kind : goal.returns-in_err-kind
 returns-in_err-kind c =
-    let p = err_from_is_err_and c.from-residual.result c.from-residual.ensures.1 in
+    let p = err_from_is_err_and c.from_residual.result c.from_residual.ensures.1 in
     rw (p.1, p.2) (bad_head _ c.if-not-is_short.ensures _ _ c.in-Some.ensures _ c.in_err-kind.ensures)

@@ -38,20 +38,20 @@ returns-in_ok-fill-3 c =
 
 pub returns-in_err-fill : goal.returns-in_err-fill
 returns-in_err-fill c =
-    let p = err_from_is_err_and c.from-residual-in_err-fill.result c.from-residual-in_err-fill.ensures.1 in
+    let p = err_from_is_err_and c.from_residual-in_err-fill.result c.from_residual-in_err-fill.ensures.1 in
     let told = c.in_err-fill.ensures in
     record { answers = rw (p.1, p.2) (declines Points _ _ _ _ _ _ _ c.in-Points.is refl c.in_ok-kind.ensures told.filled, ap (λ l. lists l c.args.crossings.now c.args.turns.now) (told.same refl)) }
 
 pub returns-in_err-fill-2 : goal.returns-in_err-fill-2
 returns-in_err-fill-2 c =
     let n = c.in_ok-kind.n in
-    let p = err_from_is_err_and c.from-residual-in_err-fill-2.result c.from-residual-in_err-fill-2.ensures.1 in
+    let p = err_from_is_err_and c.from_residual-in_err-fill-2.result c.from_residual-in_err-fill-2.ensures.1 in
     let told = c.in_err-fill-2.ensures in
     record { answers = rw (p.1, p.2) (declines Network _ _ _ _ _ _ _ c.in-Network.is (ap (λ m. n * m / 2) c.saturating_sub.ensures) c.in_ok-kind.ensures told.filled, ap (λ l. lists c.args.places.now l c.args.turns.now) (told.same refl)) }
 
 pub returns-in_err-fill-3 : goal.returns-in_err-fill-3
 returns-in_err-fill-3 c =
     let n = c.in_ok-kind.n in
-    let p = err_from_is_err_and c.from-residual-in_err-fill-3.result c.from-residual-in_err-fill-3.ensures.1 in
+    let p = err_from_is_err_and c.from_residual-in_err-fill-3.result c.from_residual-in_err-fill-3.ensures.1 in
     let told = c.in_err-fill-3.ensures in
     record { answers = rw (p.1, p.2) (declines Table _ _ _ _ _ _ _ c.in-Table.is (λ j. n * c.saturating_sub-in-Table.ensures j * c.saturating_sub-in-Table-2.ensures j / 6) c.in_ok-kind.ensures told.filled, ap (λ l. lists c.args.places.now c.args.crossings.now l) (told.same refl)) }

@@ -16,7 +16,7 @@ moved e f i j a = subst (λ x. x) (λ t. Arc (star (e t) (f t)) (AllOf (star (e 
 -- mark i has no arc
 pub returns-in_err-j : goal.returns-in_err-j
 returns-in_err-j c =
-    rw c.from-residual.ensures (record {
+    rw c.from_residual.ensures (record {
       pair = no_pair c.args.points.now.places.now c.args.c (good c.args.points.now.places.now c.args.points.now.good) c.requires.starred c.args.i
           (λ j a. c.in_err-j.ensures.arc j (moved (sym c.requires.tied.0) (sym c.requires.tied.1) c.args.i j a));
     })

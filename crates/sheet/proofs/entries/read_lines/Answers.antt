@@ -9,12 +9,12 @@ use Rattle.sheet.proofs.entries.read_lines.Goals as goal
 
 pub returns-in_err-bytes : goal.returns-in_err-bytes
 returns-in_err-bytes g c =
-    let p = err_from_is_err_and c.from-residual.result c.from-residual.ensures.1 in
+    let p = err_from_is_err_and c.from_residual.result c.from_residual.ensures.1 in
     rw (p.1, p.2) (stop_missed _ _ _ _ _ c.loop-at.invariant.0 _ (length-take-le _ _ (omega arith)) c.loop-at-test.true _ c.in_err-bytes.ensures)
 
 pub returns-in_err-list : goal.returns-in_err-list
 returns-in_err-list g c =
-    let p = err_from_is_err_and c.from-residual-in_err-list.result c.from-residual-in_err-list.ensures.1 in
+    let p = err_from_is_err_and c.from_residual-in_err-list.result c.from_residual-in_err-list.ensures.1 in
     rw (p.1, p.2) (stop_judged _ _ _ _ _ c.loop-at.invariant.0 _ (length-take-le _ _ (omega arith)) (g.met.E.Entry.whole c.args.count c.loop-at.at) c.loop-at-test.true _ _ c.in_ok-bytes.ensures _ c.in_err-list.ensures)
 
 pub following-triple-requires : goal.following-triple-requires

@@ -28,7 +28,7 @@ returns-in_ok-x c =
 
 pub returns-in_err-x : goal.returns-in_err-x
 returns-in_err-x c =
-    rw (c.from-residual.ensures, begins (goal.at.returns-in_err-x c).After-from 109 c.in-m.is)
+    rw (c.from_residual.ensures, begins (goal.at.returns-in_err-x c).After-from 109 c.in-m.is)
     (only_mark _ (λ x y l e. cut_none _ x y c.in_err-x.ensures e))
 
 pub returns-in-t : goal.returns-in-t

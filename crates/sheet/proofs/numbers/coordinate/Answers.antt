@@ -9,7 +9,7 @@ begins c = front _ 45 (omega (arith, ltb-false)) (sym c.from.ensures ∙ c.if-fr
 
 pub returns-in_err-number : goal.returns-in_err-number
 returns-in_err-number c =
-    rw c.from-residual.ensures (no_minus _ _ (begins (goal.at.returns-in_err-number c).After-number) (λ n. c.in_err-number.ensures (suc n)))
+    rw c.from_residual.ensures (no_minus _ _ (begins (goal.at.returns-in_err-number c).After-number) (λ n. c.in_err-number.ensures (suc n)))
 
 pub returns-then-from-eq45 : goal.returns-then-from-eq45
 returns-then-from-eq45 c =

@@ -8,7 +8,7 @@ overflow_mul-n c = omega (arith, sofar_small _ _ _ c.requires c.loop-b-test.true
 
 pub returns-in_err-n : goal.returns-in_err-n
 returns-in_err-n c =
-    rw c.from-residual.ensures
+    rw c.from_residual.ensures
     (λ ds. c.in_err-n.ensures.value (subst (λ x. digit_value x < 10) (sym c.from.ensures) (digit_value_at _ _ ds c.loop-b-test.true)))
 
 pub overflow_add-n : goal.overflow_add-n

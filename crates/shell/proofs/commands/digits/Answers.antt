@@ -9,7 +9,7 @@ overflow_mul-n c = omega (arith, sofar_below _ _ _ c.loop-b-test.true c.loop-b.i
 
 pub returns-in_err-to_digit : goal.returns-in_err-to_digit
 returns-in_err-to_digit c =
-    rw c.from-residual.ensures
+    rw c.from_residual.ensures
     (λ ds. c.in_err-to_digit.ensures.value (subst (λ x. digit_value x < 10) (sym c.from.ensures) (digit_value_at _ _ ds c.loop-b-test.true)))
 
 pub overflow_add-n : goal.overflow_add-n

@@ -14,7 +14,7 @@ returns-then-needless_zero c =
     λ v wide is. omega (arith, wide_zero v wide _ is told.0, simp (length-take, length-drop) at told.1)
 
 pub returns-in_err-digits : goal.returns-in_err-digits
-returns-in_err-digits c = rw c.from-residual.ensures (λ v wide is. c.in_err-digits.ensures (wide_digits v wide _ is))
+returns-in_err-digits c = rw c.from_residual.ensures (λ v wide is. c.in_err-digits.ensures (wide_digits v wide _ is))
 
 pub returns-in-Ok : goal.returns-in-Ok
 returns-in-Ok c =

@@ -9,17 +9,17 @@ module _ (c : goal.Else-lower-upper) where
   low : get_or c.loop-t.wires (get_or c.args.crossings.now c.loop-t.t 0 + 1) 0 < c.args.n
   low =
       lower_in c.args.n c.args.crossings.now c.loop-t.t c.loop-t.wires (omega arith)
-      (c.requires.1 c.loop-t.t c.loop-t-test.true) c.loop-t.invariant.2 (λ s h. c.requires.1 s (omega arith))
+      (c.requires.in_range c.loop-t.t c.loop-t-test.true) c.loop-t.invariant.2 (λ s h. c.requires.in_range s (omega arith))
 
   is_upper : get_or c.loop-t.wires (get_or c.args.crossings.now c.loop-t.t 0) 0 ≡ upper c.args.crossings.now c.loop-t.t
   is_upper =
       upper_is c.args.n c.args.crossings.now c.loop-t.t c.loop-t.wires (omega arith)
-      (c.requires.1 c.loop-t.t c.loop-t-test.true) c.loop-t.invariant.2
+      (c.requires.in_range c.loop-t.t c.loop-t-test.true) c.loop-t.invariant.2
 
   is_lower : get_or c.loop-t.wires (get_or c.args.crossings.now c.loop-t.t 0 + 1) 0 ≡ lower c.args.crossings.now c.loop-t.t
   is_lower =
       lower_is c.args.n c.args.crossings.now c.loop-t.t c.loop-t.wires (omega arith)
-      (c.requires.1 c.loop-t.t c.loop-t-test.true) c.loop-t.invariant.2
+      (c.requires.in_range c.loop-t.t c.loop-t-test.true) c.loop-t.invariant.2
 
 pub overflow_mul-times : goal.overflow_mul-times
 overflow_mul-times c = let h = low c in omega arith
@@ -39,12 +39,12 @@ loop-t-preserved c =
     let t = c.loop-t.t in (
       simp length-set c.loop-t.invariant.0,
       simp length-set c.loop-t.invariant.1,
-      stand_more c.args.n cs t c.loop-t.wires (omega arith) (c.requires.1 t c.loop-t-test.true) c.loop-t.invariant.2,
+      stand_more c.args.n cs t c.loop-t.wires (omega arith) (c.requires.in_range t c.loop-t-test.true) c.loop-t.invariant.2,
       below_more _ _ c.loop-t.invariant.3 (let a = is_upper c in let b = is_lower c in omega arith),
       λ legal.
           noted_more c.args.n cs t c.loop-t.times
           (get_or c.loop-t.wires (get_or cs t 0) 0) (get_or c.loop-t.wires (get_or cs t 0 + 1) 0)
-          (is_upper c) (is_lower c) c.requires.0.0 c.loop-t-test.true c.if-lower-upper.false (low c) c.loop-t.invariant.1
+          (is_upper c) (is_lower c) c.requires.whole.0 c.loop-t-test.true c.if-lower-upper.false (low c) c.loop-t.invariant.1
           legal (c.loop-t.invariant.4 legal),
     )
 
@@ -54,10 +54,10 @@ returns c =
     let n = c.args.n in
     record {
       times = (
-        record { long = c.requires.0.1; range = c.requires.1; legal = λ s h. c.loop-t.invariant.3 s (omega arith) },
+        record { long = c.requires.whole.1; range = c.requires.in_range; legal = λ s h. c.loop-t.invariant.3 s (omega arith) },
         c.loop-t.invariant.1,
         λ i j x y.
-            let h = all_cross n cs c.requires.1 (λ s h. c.loop-t.invariant.3 s (omega arith)) c.requires.0.1 i j x y in
+            let h = all_cross n cs c.requires.in_range (λ s h. c.loop-t.invariant.3 s (omega arith)) c.requires.whole.1 i j x y in
             c.loop-t.invariant.4 (λ s h. c.loop-t.invariant.3 s (omega arith)) i j x y (omega arith),
       );
     }

@@ -10,7 +10,7 @@ use Rattle.systems.proofs.tables.turns_left.Goals.{After-entry}
 
 inside : (c : After-entry) → c.entry.result < length c.args.turns.now
 inside c =
-    let h = entry_below c.args.n c.args.i c.args.j c.args.k c.requires.0.0 c.requires.0.1 c.requires.0.2 c.requires.1.few in
+    let h = entry_below c.args.n c.args.i c.args.j c.args.k c.requires.rising.0 c.requires.rising.1 c.requires.rising.2 c.requires.fits.few in
     omega arith
 
 at : (c : After-entry) → is_left (get_or c.args.turns.now c.entry.result to-left) ≡ table_turns c.args.n (map is_left c.args.turns.now) c.args.i c.args.j c.args.k

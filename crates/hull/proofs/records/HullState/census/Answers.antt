@@ -7,10 +7,10 @@ use Rattle.hull.proofs.OfWords.{word_bit, word_ones, how_many_both}
 use Rattle.hull.proofs.records.HullState.census.Goals as goal
 
 pub overflow_add-result : goal.overflow_add-result
-overflow_add-result c = omega (arith, ones-le 64 c.word-low.result c.word-low.type-inv, ones-le 64 c.high_word-high.result c.high_word-high.type-inv)
+overflow_add-result c = omega (arith, ones-le 64 c.word-low.result c.word-low.type_inv, ones-le 64 c.high_word-high.result c.high_word-high.type_inv)
 
 pub overflow_cast-result : goal.overflow_cast-result
-overflow_cast-result c = omega (arith, ones-le 64 c.word-low.result c.word-low.type-inv, ones-le 64 c.high_word-high.result c.high_word-high.type-inv)
+overflow_cast-result c = omega (arith, ones-le 64 c.word-low.result c.word-low.type_inv, ones-le 64 c.high_word-high.result c.high_word-high.type_inv)
 
 pub returns : goal.returns
 returns c =

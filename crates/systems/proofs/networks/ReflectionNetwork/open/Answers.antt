@@ -21,7 +21,7 @@ pub invariant_of-result : goal.invariant_of-result
 invariant_of-result c =
     let h = c.in-Ok.ensures.judged in
     let a = (accepts c.args.count c.args.crossings.now _ h.0).0 refl in
-    (a.0, (a.1.legal, (h.1, (λ i j x y. subst T (sym (eq-eqb _ _ (h.2 i j x y))) tt, tt))))
+    record { few = a.0; legal = a.1.legal; long = h.1; timed = λ i j x y. subst T (sym (eq-eqb _ _ (h.2 i j x y))) tt }
 
 pub returns : goal.returns
 returns c =

@@ -13,6 +13,6 @@ determinant-requires c =
 pub returns : goal.returns
 returns c =
     record {
-      turns = sided (plane c.args.self.now.places.now) c.args.p c.args.q c.args.r c.requires c.determinant.result c.determinant.type-inv
+      turns = sided (plane c.args.self.now.places.now) c.args.p c.args.q c.args.r c.requires c.determinant.result c.determinant.type_inv
           (ap positive (sym c.determinant.ensures.exact));
     }

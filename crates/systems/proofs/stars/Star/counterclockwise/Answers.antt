@@ -32,6 +32,6 @@ returns c =
     let o = c.args.self.now.centre in
     let e : _ = (λ i. det (seen (place ps o) (place ps (c.point_of-x.ensures.meant i))) (seen (place ps o) (place ps (c.point_of-y.ensures.meant i))) (seen (place ps o) (place ps (c.point_of-z.ensures.meant i)))) in
     record {
-      turns = sided (star ps o) c.args.p c.args.q c.args.r c.requires c.star_determinant.result c.star_determinant.type-inv
+      turns = sided (star ps o) c.args.p c.args.q c.args.r c.requires c.star_determinant.result c.star_determinant.type_inv
           (ap positive (sym (c.star_determinant.ensures.exact ∙ e)));
     }

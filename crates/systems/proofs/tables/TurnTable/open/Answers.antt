@@ -20,7 +20,7 @@ returns-in-Some c =
 pub invariant_of-result : goal.invariant_of-result
 invariant_of-result c =
     let h = (accepts c.args.count c.args.turns.now _ c.in_default.ensures.judged).0 refl in
-    (h.0.few, (h.0.long, (table_tested c.args.count c.args.turns.now h.0 h.1, tt)))
+    record { few = h.0.few; long = h.0.long; kept = table_tested c.args.count c.args.turns.now h.0 h.1 }
 
 pub returns : goal.returns
 returns c = record {
