@@ -1,6 +1,5 @@
 -- The marks of a set below a number, one more at a time.
-use Rattle.std.proofs.Common.{◌≡◌, ℕ, ◌+◌, ◌<◌, ◌≤◌, Bool, true, false, ◌&&◌, T, ltb, ◌≢◌, ◌↔◌, List, [], sym, refl, ap, ◌∙◌, subst, arith, ltb→lt, lt-ltb}
-use mathlib.Core.Path.{fun_ext}
+use Rattle.std.proofs.Common.{◌≡◌, ℕ, ◌+◌, ◌<◌, ◌≤◌, Bool, false, T, ltb, ◌≢◌, List, [], sym, ap, ◌∙◌, subst, arith, ltb→lt, lt-ltb}
 use Rattle.laws.specs.Systems.{Meaning}
 use Rattle.laws.specs.Outlines.{Marks, none}
 use Rattle.laws.specs.Theorems.{of}

@@ -1,12 +1,12 @@
 -- What an add and a drop make of the records.
-use Rattle.std.proofs.Common.{◌≡◌, ℕ, ◌+◌, ◌-◌, ◌<◌, ◌≤◌, Bool, true, false, T, ◌≢◌, List, [], ◌∷◌, length, get_or, Some, None, Ok, Option, unwrap_or, sym, refl, ap, ◌∙◌, subst, arith}
+use Rattle.std.proofs.Common.{◌≡◌, ℕ, ◌<◌, Bool, true, false, T, List, [], ◌∷◌, length, Some, None, Ok, Option, unwrap_or, sym, refl, ◌∙◌, subst, arith}
 use Rattle.std.proofs.ByRecursion.{All-get_or}
 use Rattle.laws.specs.Systems.{Meaning, Lawful}
 use Rattle.laws.specs.Outlines.{Marks, Turned}
 use Rattle.laws.specs.Theorems.{of}
 use Rattle.laws.proofs.Uniqueness.{outline_apart}
 use Rattle.laws.proofs.Existence.{outline_turned}
-use Rattle.runs.specs.Calls.{edge, inside, added, dropped, On, Lacking, RingOf, OneMore, Answers, add, drop, adds, drops}
+use Rattle.runs.specs.Calls.{edge, inside, added, dropped, Lacking, RingOf, OneMore, Answers, add, drop, adds, drops}
 use Rattle.runs.proofs.Decided.{more_marks, less_marks}
 use Rattle.runs.proofs.Standing.{outline_in}
 use Rattle.hull.specs.declared.records.Record.{Record}

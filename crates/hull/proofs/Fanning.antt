@@ -1,14 +1,14 @@
 -- The fan triangle around a mark within the ring, by places.
-use Rattle.std.proofs.Common.{◌≡◌, ℕ, ◌+◌, ◌-◌, ◌<◌, ◌≤◌, Bool, true, false, T, ◌≢◌, List, [], ◌∷◌, length, get_or, sym, refl, ap, ◌∙◌, subst, inl, inr, arith}
+use Rattle.std.proofs.Common.{◌≡◌, ℕ, ◌+◌, ◌<◌, ◌≤◌, true, false, T, List, [], ◌∷◌, length, get_or, sym, refl, ap, ◌∙◌, subst, inl, inr, arith}
 use Rattle.std.proofs.ByRecursion.{All-get_or}
 use Rattle.laws.specs.Systems.{Meaning, Three, Left, Lawful}
-use Rattle.laws.specs.Outlines.{Marks, Follows, Hull}
+use Rattle.laws.specs.Outlines.{Follows}
 use Rattle.laws.specs.Theorems.{of}
 use Rattle.laws.proofs.Turns.{cyclic², swapped}
 use Rattle.laws.proofs.Fans.{three_or_more}
 use Rattle.laws.proofs.Renaming.{named_apart}
 use Rattle.laws.proofs.Uniqueness.{outline_apart}
-use Rattle.runs.specs.Calls.{On, RingOf, Fan, fan}
+use Rattle.runs.specs.Calls.{Fan, fan}
 use Rattle.runs.proofs.Standing.{outline_in, off_all, left_of_all, hull_beside}
 use Rattle.hull.specs.Rings.{Within, rotated}
 use Rattle.hull.proofs.Lists.{rotated_next, rotated_last, follows_at}

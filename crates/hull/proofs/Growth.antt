@@ -1,8 +1,8 @@
 -- The ring around one mark more, put together mark by mark: it is an outline of the marks and the new one.
-use Rattle.std.proofs.Common.{◌≡◌, ℕ, zero, suc, ◌+◌, ◌-◌, ◌<◌, ◌≤◌, Bool, true, false, T, ◌≢◌, ◌⊎◌, ◌↔◌, List, [], ◌∷◌, ◌++◌, length, get_or, drop, sym, refl, ap, ◌∙◌, subst, ap₂, inl, inr, append_assoc, append-nil, add-one, arith, length-append, drop-cons}
+use Rattle.std.proofs.Common.{◌≡◌, ℕ, zero, suc, ◌+◌, ◌-◌, ◌<◌, ◌≤◌, Bool, true, false, T, List, [], ◌∷◌, ◌++◌, length, get_or, drop, sym, refl, ap, ◌∙◌, subst, ap₂, inl, inr, append_assoc, append-nil, add-one, arith, drop-cons}
 use mathlib.Core.Logic.Iff
 use Rattle.laws.specs.Systems.{Meaning, Three, Left, Lawful}
-use Rattle.laws.specs.Outlines.{Marks, adding, Step, Follows, Outline, none, one as single, more, ReadOut, Turned, Grown}
+use Rattle.laws.specs.Outlines.{Step, Follows, Outline, none, one as single, more, ReadOut, Turned}
 use Rattle.laws.specs.Theorems.{of}
 use Rattle.std.proofs.ByRecursion.{All-weaker}
 use Rattle.laws.proofs.Turns.{swapped}
@@ -11,7 +11,6 @@ use Rattle.laws.proofs.Insertion.{insert}
 use Rattle.laws.proofs.Existence.{two, outline_of, outline_same, outline_turned, to_hull}
 use Rattle.laws.proofs.Uniqueness.{outline_apart}
 use Rattle.laws.proofs.Counts.{few}
-use Rattle.runs.specs.Calls.{RingOf, OneMore}
 use Rattle.runs.proofs.Decided.{more_marks}
 use Rattle.runs.proofs.Standing.{outline_in}
 use Rattle.runs.proofs.SomeAnswer.{with_it}

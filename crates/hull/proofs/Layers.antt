@@ -1,14 +1,12 @@
 -- Peeling one outline after another off the marks.
-use Rattle.std.proofs.Common.{◌≡◌, ℕ, zero, suc, ◌+◌, ◌-◌, ◌<◌, ◌≤◌, Bool, true, false, T, ◌≢◌, ◌⊎◌, ◌↔◌, List, [], ◌∷◌, length, get_or, take, drop, set, sym, refl, ap, ◌∙◌, subst, inl, inr, add-zero, arith, length-drop, length-set, length-take, length-take-le, get_or-drop, get_or-set_other, get_or-take, get_or-set_same, ext_get_or}
-use native.Mathlib.Decide.{dec_le}
+use Rattle.std.proofs.Common.{◌≡◌, ℕ, zero, suc, ◌+◌, ◌-◌, ◌<◌, ◌≤◌, Bool, true, false, T, ◌≢◌, ◌⊎◌, ◌↔◌, List, [], ◌∷◌, length, get_or, take, drop, set, sym, refl, ap, ◌∙◌, subst, inl, inr, add-zero, arith, length-drop, length-set, length-take-le, get_or-drop, get_or-set_other, get_or-take, get_or-set_same, ext_get_or}
 use Rattle.laws.specs.Systems.{Meaning, Lawful}
 use Rattle.laws.specs.Outlines.{Marks, Outline, none}
 use Rattle.laws.specs.Theorems.{of}
 use Rattle.laws.proofs.Walks.{other}
 use Rattle.runs.specs.Calls.{On, RingOf, Peeled, outer, inner, Rounds}
-use Rattle.runs.proofs.Standing.{ring_in, outline_in}
-use Rattle.runs.proofs.Decided.{tested}
-use Rattle.runs.proofs.SomeAnswer.{on_or, size, size_in, size_lost, weigh, lighter}
+use Rattle.runs.proofs.Standing.{ring_in}
+use Rattle.runs.proofs.SomeAnswer.{on_or, size, size_in, size_lost, lighter}
 use Rattle.hull.specs.Records.{flagged}
 
 -- ---- one ring off

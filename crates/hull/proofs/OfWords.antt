@@ -1,5 +1,5 @@
 -- Words and their bits.
-use Rattle.std.proofs.Common.{◌≡◌, ℕ, zero, suc, ◌+◌, ◌*◌, ◌/◌, ◌%◌, ◌^◌, ◌<◌, ◌≤◌, Bool, true, false, cond, eqb, List, [], ◌∷◌, length, filter, sym, refl, ap, ◌∙◌, subst, add-zero, zero-add, mul_left_comm, add-one, one-add, arith, lit<}
+use Rattle.std.proofs.Common.{◌≡◌, ℕ, zero, suc, ◌+◌, ◌*◌, ◌/◌, ◌%◌, ◌^◌, ◌<◌, ◌≤◌, Bool, true, false, cond, eqb, List, ◌∷◌, length, filter, sym, refl, ap, ◌∙◌, subst, add-zero, zero-add, mul_left_comm, add-one, one-add, arith, lit<}
 use native.Mathlib.Nat.{pow-succ'}
 use lib.Count.{ones, ones_step}
 use lib.Bits.{bit_or}

@@ -1,12 +1,12 @@
 -- Recorded answers: lists that are handed over and come back, and histories that grow call by call.
-use Rattle.std.proofs.Common.{◌≡◌, ℕ, ◌+◌, ◌<◌, Bool, false, T, List, [], ◌∷◌, ◌++◌, map, length, get_or, take, IfOk, Ok, Err, vec_items, vec_len, Result, Vec, sym, refl, ap, ◌∙◌, subst, subst₂, arith, MatchResult}
+use Rattle.std.proofs.Common.{◌≡◌, ℕ, ◌+◌, ◌<◌, Bool, false, T, List, [], ◌∷◌, ◌++◌, map, length, get_or, take, IfOk, Ok, Err, vec_items, Result, Vec, sym, refl, ap, ◌∙◌, subst, subst₂, arith, MatchResult}
 use Rattle.std.specs.Vec.{with_items}
 use Rattle.std.proofs.lemmas.List.{with_items_is, take_more}
 use Rattle.laws.specs.Systems.{Meaning, Lawful}
 use Rattle.cc.specs.declared.faults.Fault.{Fault}
-use Rattle.runs.specs.Calls.{add, drop, place, neighbours, outline, rounds, added, dropped, declined, Answers, OneMore}
-use Rattle.runs.specs.Calls.{Call as TheCall, Answer as TheAnswer, Side as Standing}
-use Rattle.runs.specs.Runs.{Declined, History, HasIn, place?, neighbours?, outline?, rounds?}
+use Rattle.runs.specs.Calls.{add, drop, declined, Answers, OneMore}
+use Rattle.runs.specs.Calls.{Call as TheCall, Answer as TheAnswer}
+use Rattle.runs.specs.Runs.{History, HasIn, place?, neighbours?, outline?, rounds?}
 use Rattle.runs.specs.Runs.{Question as IsQuestion}
 use Rattle.runs.proofs.Decided.{set_same}
 use Rattle.runs.proofs.Agreeing.{same_answers}

@@ -1,5 +1,5 @@
 -- The answers that write into the caller's list, and the hull of no mark.
-use Rattle.std.proofs.Common.{◌≡◌, ℕ, ◌<◌, ◌≤◌, Bool, false, T, List, [], ◌∷◌, ◌++◌, length, take, drop as behind, Ok, Err, Result, sym, refl, ap, ◌∙◌, subst, subst₂, arith, take-append-drop}
+use Rattle.std.proofs.Common.{◌≡◌, ℕ, ◌<◌, ◌≤◌, Bool, false, T, List, [], ◌∷◌, ◌++◌, length, take, drop as behind, Ok, Err, Result, sym, ap, ◌∙◌, subst, subst₂, arith, take-append-drop}
 use native.Mathlib.Decide.{dec_lt}
 use Rattle.laws.specs.Systems.{Meaning}
 use Rattle.laws.specs.Outlines.{none}

@@ -1,5 +1,5 @@
 -- Histories as the code holds them: calls, and the answers that were recorded.
-use Rattle.std.specs.Prelude.{◌≡◌, ℕ, Bool, List, [], map, length, vec_items}
+use Rattle.std.specs.Prelude.{◌≡◌, ℕ, Bool, List, map, length, vec_items}
 use Rattle.laws.specs.Systems.{Meaning}
 use Rattle.cc.specs.declared.faults.Fault.{Fault}
 use Rattle.runs.specs.Calls.{add, drop, place, neighbours, outline, rounds, added, dropped, at, within, beside, wrote, declined, OneMore, Answers}

@@ -1,5 +1,5 @@
 -- What the records say, and when they describe the hull of the marks that are in.
-use Rattle.std.specs.Prelude.{◌≡◌, ℕ, ◌<◌, Bool, false, ◌&&◌, T, List, length, nat_lt, slice_index, slice_index_or, slice_set}
+use Rattle.std.specs.Prelude.{◌≡◌, ℕ, ◌<◌, Bool, false, ◌&&◌, List, length, nat_lt, slice_index, slice_index_or, slice_set}
 use Rattle.laws.specs.Systems.{Meaning}
 use Rattle.laws.specs.Outlines.{Marks, Apart, Follows}
 use Rattle.laws.specs.Theorems.{of}

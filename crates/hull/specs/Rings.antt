@@ -1,7 +1,7 @@
 -- Rings as the code holds them.
-use Rattle.std.specs.Prelude.{ℕ, ◌<◌, ◌≤◌, Bool, true, false, T, List, [], ◌∷◌, ◌++◌, take}
+use Rattle.std.specs.Prelude.{ℕ, ◌<◌, Bool, true, false, T, List, [], ◌∷◌, ◌++◌, take}
 use Rattle.laws.specs.Systems.{Meaning}
-use Rattle.laws.specs.Outlines.{Marks, Outline, Turned, ReadOut}
+use Rattle.laws.specs.Outlines.{Marks, Outline}
 use Rattle.laws.specs.Theorems.{of}
 use Rattle.runs.specs.Calls.{On, RingOf, OneMore}
 use Rattle.hull.specs.declared.rings.Ring.{Ring}

@@ -1,11 +1,11 @@
 -- Two readings that agree on the marks that are in have the same answers to the questions.
-use Rattle.std.proofs.Common.{◌≡◌, ℕ, ◌<◌, ◌≤◌, Bool, T, ◌≢◌, ◌⊎◌, ◌↔◌, List, [], ◌∷◌, ◌++◌, length, get_or, drop as behind, sym, refl, ap, ◌∙◌, subst, arith}
+use Rattle.std.proofs.Common.{◌≡◌, ℕ, ◌<◌, ◌≤◌, Bool, T, ◌⊎◌, List, ◌++◌, length, get_or, drop as behind, sym, refl, ◌∙◌, subst}
 use mathlib.Core.Logic.Iff
-use Rattle.laws.specs.Systems.{Meaning, Left, Lawful}
-use Rattle.laws.specs.Outlines.{Marks, Arc, Follows, Outline, Around}
+use Rattle.laws.specs.Systems.{Meaning, Lawful}
+use Rattle.laws.specs.Outlines.{Marks}
 use Rattle.laws.specs.Theorems.{of}
 use Rattle.cc.specs.declared.faults.Fault.TheVariants.{Tight}
-use Rattle.runs.specs.Calls.{Call, add, drop, place, neighbours, outline, rounds, Answer, wrote, declined, On, RingOf, Fan, fan, Peeled, outer, inner, Rounds}
+use Rattle.runs.specs.Calls.{Call, rounds, Answer, wrote, declined, On, RingOf, Fan, fan, Peeled, outer, inner, Rounds}
 use Rattle.runs.specs.Calls.{Answers, stands, lies, has_beside, reads, counts, stranger, absent, off_the_edge, tight_ring, tight_rounds}
 use Rattle.runs.specs.Runs.{Agree, Question, place?, neighbours?, outline?, rounds?}
 use Rattle.laws.proofs.Existence.{outline_same}

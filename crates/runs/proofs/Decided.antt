@@ -1,8 +1,8 @@
 -- What the answers are made of is decided by the marks that are in.
-use Rattle.std.proofs.Common.{◌≡◌, ℕ, suc, ◌<◌, ◌≤◌, Bool, true, false, T, ◌≢◌, ◌⊎◌, ◌↔◌, List, [], ◌∷◌, length, get_or, sym, refl, ap, ◌∙◌, subst, ap₂, subst₂, inl, inr, arith, ext_get_or}
+use Rattle.std.proofs.Common.{◌≡◌, ℕ, suc, ◌<◌, ◌≤◌, Bool, true, false, T, ◌⊎◌, ◌↔◌, List, get_or, sym, refl, ap, ◌∙◌, subst, inl, inr, arith, ext_get_or}
 use mathlib.Core.Path.{fun_ext}
-use Rattle.laws.specs.Systems.{Meaning, Left, Lawful}
-use Rattle.laws.specs.Outlines.{Marks, Arc, Follows, Outline, none, one, more, Around}
+use Rattle.laws.specs.Systems.{Meaning, Lawful}
+use Rattle.laws.specs.Outlines.{Marks, Follows, Outline, none, one, more}
 use Rattle.laws.specs.Theorems.{of}
 use Rattle.runs.specs.Calls.{Side, edge, inside, On, RingOf, OneMore, Lacking, none as all_there, there, gone, Stands, Fan, fan, Peeled, outer, inner, Rounds}
 use Rattle.laws.proofs.Walks.{other}

@@ -1,9 +1,8 @@
 -- One more call: how a history grows, and that every list of calls has a run.
-use Rattle.std.proofs.Common.{◌≡◌, ℕ, zero, suc, ◌+◌, ◌<◌, ◌≤◌, Bool, true, false, T, ◌≢◌, ◌⊎◌, ◌↔◌, List, [], ◌∷◌, ◌++◌, length, get_or, sym, refl, ap, ◌∙◌, subst, subst₂, inl, inr, append_assoc, append-nil, arith, length-append, take_at}
+use Rattle.std.proofs.Common.{◌≡◌, ℕ, ◌<◌, ◌≤◌, Bool, T, ◌⊎◌, List, [], ◌∷◌, ◌++◌, length, sym, refl, ap, ◌∙◌, subst, subst₂, inl, inr, append_assoc, append-nil, arith, length-append, take_at}
 use lib.ListN.{get_or-append}
 use lib.Seq.{take-append-le, get_or_at}
 use Rattle.laws.specs.Systems.{Meaning, Lawful}
-use Rattle.laws.specs.Outlines.{Marks}
 use Rattle.laws.specs.Theorems.{of}
 use Rattle.cc.specs.declared.faults.Fault.TheVariants.{Stranger}
 use Rattle.runs.specs.Calls.{Call, add, drop, Answer, declined, OneMore, Answers}

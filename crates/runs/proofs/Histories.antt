@@ -1,14 +1,13 @@
 -- The marks that are in after a history, and the theorem over whole runs.
-use Rattle.std.proofs.Common.{◌≡◌, ℕ, zero, suc, ◌<◌, ◌≤◌, Bool, true, false, T, ◌≢◌, ◌⊎◌, ◌↔◌, List, [], ◌∷◌, map, length, get_or, sym, refl, ap, ◌∙◌, subst, inl, inr, arith, length-take, get_or-take, take-take}
+use Rattle.std.proofs.Common.{◌≡◌, ℕ, zero, suc, ◌<◌, ◌≤◌, Bool, true, false, T, ◌≢◌, ◌⊎◌, ◌↔◌, List, [], ◌∷◌, length, get_or, sym, refl, ap, ◌∙◌, subst, inl, inr, arith, length-take, get_or-take, take-take}
 use native.Mathlib.Decide.{dec_lt}
-use Rattle.laws.specs.Systems.{Meaning, Left, Lawful}
+use Rattle.laws.specs.Systems.{Meaning, Lawful}
 use Rattle.laws.specs.Outlines.{Marks, Follows, Arc}
 use Rattle.laws.specs.Theorems.{of}
 use Rattle.cc.specs.declared.faults.Fault.TheVariants.{Stranger}
 use Rattle.runs.specs.Calls.{Call, add, drop, place, neighbours, outline, rounds, Side, Answer, added, dropped, at, within, beside, wrote, declined, On, RingOf, Fan, fan}
 use Rattle.runs.specs.Calls.{Answers, adds, stranger, already_in, absent}
-use Rattle.laws.specs.Layers.{pile}
-use Rattle.runs.specs.Runs.{Question, place?, neighbours?, outline?, rounds?, Declined, History, At, Done, up_to, In, HasIn, AsDefined, SameAnswers, SameRing, Whole, Right, RightIsEnough}
+use Rattle.runs.specs.Runs.{Question, place?, neighbours?, outline?, rounds?, Declined, History, Done, up_to, In, HasIn, AsDefined, Whole, Right, RightIsEnough}
 use Rattle.laws.proofs.Walks.{other}
 use Rattle.laws.proofs.Existence.{to_hull}
 use Rattle.laws.proofs.Fans.{some_around, three_or_more}

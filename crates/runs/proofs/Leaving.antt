@@ -1,11 +1,10 @@
 -- How many marks leave the ring when x is added, and come back when x is dropped: those strictly inside the run of arcs that x sees.
-use Rattle.std.proofs.Common.{◌≡◌, ℕ, zero, suc, ◌+◌, ◌<◌, ◌≤◌, Bool, T, ◌≢◌, ◌⊎◌, ◌↔◌, List, [], ◌∷◌, ◌++◌, length, get_or, sym, refl, ap, ◌∙◌, subst, subst₂, inl, inr, append_assoc, zero-add, arith, length-append}
+use Rattle.std.proofs.Common.{◌≡◌, ℕ, zero, suc, ◌+◌, ◌<◌, ◌≤◌, Bool, T, ◌≢◌, ◌⊎◌, ◌↔◌, List, [], ◌∷◌, ◌++◌, length, sym, refl, ap, subst, subst₂, inl, inr, append_assoc, zero-add, arith, length-append}
 use mathlib.Core.Logic.Iff
-use mathlib.Core.Logic.{Ne-symm}
 use Rattle.std.specs.List.{AllByRecursion as All}
-use Rattle.std.proofs.ByRecursion.{All-append, All-weaker, All-from_get_or}
+use Rattle.std.proofs.ByRecursion.{All-weaker, All-from_get_or}
 use Rattle.laws.specs.Systems.{Meaning, Lawful}
-use Rattle.laws.specs.Outlines.{Marks, adding, Apart, Hull, Outline, none as nothing, one as single, more as many, Turned, Grown}
+use Rattle.laws.specs.Outlines.{Marks, adding, Apart, Outline, none as nothing, one as single, more as many, Turned, Grown}
 use Rattle.laws.specs.Theorems.{of}
 use Rattle.runs.specs.Calls.{On, RingOf, OneMore, Lacking, none, there, gone}
 use Rattle.laws.proofs.Walks.{other, all_cut}
@@ -14,7 +13,7 @@ use Rattle.laws.proofs.Existence.{outline_of, outline_same, outline_turned, to_h
 use Rattle.laws.proofs.Uniqueness.{turned, outline_apart}
 use Rattle.laws.proofs.Fans.{three_or_more}
 use Rattle.runs.proofs.SomeAnswer.{on_or}
-use Rattle.runs.proofs.Standing.{on_all, off_all, outline_in, ring_in, ring_same}
+use Rattle.runs.proofs.Standing.{off_all, outline_in, ring_in, ring_same}
 use Rattle.runs.proofs.Decided.{more_marks}
 
 on_left : (k l : List ℕ) (x : ℕ) → On k x → On (k ++ l) x

@@ -1,11 +1,11 @@
 -- A call has one answer.
-use Rattle.std.proofs.Common.{◌≡◌, ℕ, ◌<◌, ◌≤◌, Bool, T, ◌≢◌, List, [], ◌∷◌, ◌++◌, length, get_or, drop as behind, sym, refl, ap, ◌∙◌, subst, ap₂, subst₂, arith}
+use Rattle.std.proofs.Common.{◌≡◌, ℕ, ◌<◌, ◌≤◌, Bool, T, List, ◌++◌, length, get_or, drop as behind, sym, refl, ap, ◌∙◌, subst, ap₂, subst₂, arith}
 use Rattle.laws.specs.Systems.{Meaning, Lawful}
-use Rattle.laws.specs.Outlines.{Marks, Apart, Follows}
+use Rattle.laws.specs.Outlines.{Marks, Follows}
 use Rattle.laws.specs.Theorems.{of}
 use Rattle.cc.specs.declared.faults.Fault.TheVariants.{Tight}
-use Rattle.runs.specs.Calls.{Call, add, drop, place, neighbours, outline, rounds, Side, Answer, added, dropped, at, within, beside, wrote, declined}
-use Rattle.runs.specs.Calls.{On, RingOf, OneMore, Lacking, Stands, Fan, Rounds, Asks, to_add, to_drop, to_place, to_neighbours, NeedsIn, of_drop, of_place, of_neighbours}
+use Rattle.runs.specs.Calls.{Call, add, drop, place, neighbours, outline, rounds, Answer, added, dropped, at, within, beside, wrote, declined}
+use Rattle.runs.specs.Calls.{On, RingOf, Lacking, Stands, Fan, Asks, to_add, to_drop, to_place, to_neighbours, NeedsIn, of_drop, of_place, of_neighbours}
 use Rattle.runs.specs.Calls.{Answers, adds, drops, stands, lies, has_beside, reads, counts, stranger, already_in, absent, off_the_edge, tight_ring, tight_rounds}
 use Rattle.laws.proofs.Uniqueness.{outline_apart}
 use Rattle.laws.proofs.Renaming.{named_same}

@@ -1,5 +1,5 @@
 -- The ring of a hull over a pile of layers, by what its marks mean.
-use Rattle.std.proofs.Common.{◌≡◌, ℕ, Bool, true, false, T, ◌↔◌, List, map, reverse, sym, ap, ◌∙◌}
+use Rattle.std.proofs.Common.{ℕ, Bool, true, false, T, ◌↔◌, List, map, reverse, sym, ap, ◌∙◌}
 use mathlib.Core.List.{reverse-append, reverse-reverse}
 use mathlib.Core.Logic.Iff
 use Rattle.laws.specs.Systems.{Meaning, Lawful}

@@ -1,5 +1,5 @@
 -- The pairs of a ring by their places: the mark at i, and the one at i of the ring turned by one.
-use Rattle.std.proofs.Common.{◌≡◌, ℕ, zero, suc, ◌<◌, ◌⊎◌, List, [], ◌∷◌, ◌++◌, length, get_or, sym, refl, ap, inl, inr, arith}
+use Rattle.std.proofs.Common.{◌≡◌, ℕ, zero, suc, ◌<◌, List, [], ◌∷◌, ◌++◌, length, get_or, sym, inl, inr, arith}
 use Rattle.laws.specs.Outlines.{Step}
 
 -- p and q at one place of two lists

@@ -1,15 +1,15 @@
 -- Every call has an answer.
-use Rattle.std.proofs.Common.{◌≡◌, ℕ, zero, suc, ◌+◌, ◌<◌, ◌≤◌, Bool, true, false, cond, not, ◌&&◌, T, ◌≢◌, ◌⊎◌, ◌↔◌, List, [], ◌∷◌, ◌++◌, length, get_or, sym, refl, ap, ◌∙◌, subst, inl, inr, arith}
+use Rattle.std.proofs.Common.{◌≡◌, ℕ, zero, suc, ◌+◌, ◌<◌, ◌≤◌, Bool, true, false, cond, T, ◌≢◌, ◌⊎◌, ◌↔◌, List, [], ◌∷◌, length, get_or, sym, refl, ap, ◌∙◌, subst, inl, inr, arith}
 use native.Mathlib.Decide.{dec_le, dec_lt}
-use Rattle.laws.specs.Systems.{Meaning, Left, Lawful}
+use Rattle.laws.specs.Systems.{Meaning, Lawful}
 use Rattle.laws.specs.Outlines.{Marks, Step, Follows, Outline, none}
 use Rattle.laws.specs.Theorems.{of}
 use Rattle.cc.specs.declared.faults.Fault.TheVariants.{Stranger, AlreadyIn, Absent, OffTheEdge}
-use Rattle.runs.specs.Calls.{Call, add, drop, place, neighbours, outline, rounds, Side, edge, inside, Answer, added, dropped, at, within, beside, wrote, declined}
-use Rattle.runs.specs.Calls.{On, RingOf, OneMore, Lacking, none as all_there, there, gone, Stands, Fan, Peeled, outer, inner, Rounds, Asks, to_add, to_drop, to_place, to_neighbours, NeedsIn, of_drop, of_place, of_neighbours}
+use Rattle.runs.specs.Calls.{Call, add, drop, place, neighbours, outline, rounds, edge, inside, Answer, added, dropped, at, within, beside, declined}
+use Rattle.runs.specs.Calls.{On, OneMore, Lacking, none as all_there, there, gone, Peeled, outer, inner, Rounds, to_add, to_drop, to_place, to_neighbours, of_drop, of_place, of_neighbours}
 use Rattle.runs.specs.Calls.{Answers, adds, drops, stands, lies, has_beside, reads, counts, stranger, already_in, absent, off_the_edge, tight_ring, tight_rounds}
 use Rattle.laws.proofs.Walks.{other}
-use Rattle.runs.proofs.Standing.{ring_in, outline_in}
+use Rattle.runs.proofs.Standing.{outline_in}
 use Rattle.runs.proofs.Decided.{test_same, tested, more_marks, less_marks}
 use Rattle.runs.proofs.Histories.{OrNot, test, test_is, the_ring, the_fan}
 

@@ -1,14 +1,13 @@
 -- Marks on a ring and off it.
-use Rattle.std.proofs.Common.{◌≡◌, ℕ, suc, ◌<◌, ◌≤◌, Bool, true, false, T, ◌≢◌, ◌⊎◌, List, [], ◌∷◌, length, get_or, sym, refl, ap, subst, inl, inr, arith}
-use mathlib.Core.Logic.{Ne-symm}
+use Rattle.std.proofs.Common.{◌≡◌, ℕ, suc, Bool, T, ◌≢◌, List, [], ◌∷◌, sym, subst, inl, inr, arith}
 use Rattle.std.specs.List.{AllByRecursion as All}
 use Rattle.std.proofs.ByRecursion.{All-get_or}
 use Rattle.laws.specs.Systems.{Meaning, Left, Lawful}
-use Rattle.laws.specs.Outlines.{Marks, Arc, Step, Follows, Hull, Outline, none, one, more, ReadOut}
+use Rattle.laws.specs.Outlines.{Marks, Arc, Step, Follows, Hull, Outline, none, one, more}
 use Rattle.laws.specs.Theorems.{of}
 use Rattle.runs.specs.Calls.{On, RingOf}
 use Rattle.laws.proofs.Walks.{Walk, end, on}
-use Rattle.laws.proofs.Insertion.{Loop, loop}
+use Rattle.laws.proofs.Insertion.{loop}
 use Rattle.laws.proofs.Existence.{to_hull}
 use Rattle.laws.proofs.Fans.{three_or_more}
 use Rattle.runs.proofs.Places.{place}

@@ -1,6 +1,5 @@
 -- The list that an opened system holds is good: the accepted list, or the empty one.
-use Rattle.std.proofs.Common.{ℕ, ◌<◌, List, [], arith}
-use Rattle.models.specs.declared.places.Place.{Place}
+use Rattle.std.proofs.Common.{ℕ, ◌<◌, [], arith}
 use Rattle.models.specs.Places.{Good}
 use Rattle.models.specs.Stars.{Clear}
 

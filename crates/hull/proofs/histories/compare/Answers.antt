@@ -1,4 +1,4 @@
-use Rattle.std.proofs.Common.{◌≡◌, vec_items, sym, ap, ◌∙◌, subst}
+use Rattle.std.proofs.Common.{vec_items, ap, ◌∙◌, subst}
 use Rattle.laws.specs.Systems.{Meaning}
 use Rattle.runs.specs.Calls.{Answers}
 use Rattle.hull.specs.Records.{held}

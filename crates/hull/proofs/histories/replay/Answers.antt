@@ -1,4 +1,4 @@
-use Rattle.std.proofs.Common.{◌≡◌, take, vec_items, sym, ap, ◌∙◌, subst, take_all}
+use Rattle.std.proofs.Common.{take, vec_items, sym, ap, ◌∙◌, subst, take_all}
 use Rattle.laws.specs.Systems.{Meaning}
 use Rattle.runs.specs.Runs.{History}
 use Rattle.hull.specs.Records.{held}

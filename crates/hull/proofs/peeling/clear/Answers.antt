@@ -1,4 +1,4 @@
-use Rattle.std.proofs.Common.{arith, rules}
+use Rattle.std.proofs.Common.{rules}
 use Rattle.hull.proofs.Layers.{cleared_more}
 use Rattle.hull.proofs.peeling.clear.Goals as goal
 

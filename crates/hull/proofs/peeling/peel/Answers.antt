@@ -1,4 +1,4 @@
-use Rattle.std.proofs.Common.{◌≡◌, ◌<◌, false, length, get_or, subst, arith}
+use Rattle.std.proofs.Common.{◌≡◌, false, get_or, subst, arith}
 use Rattle.hull.specs.Rings.{listed}
 use Rattle.hull.specs.Records.{flagged}
 use Rattle.hull.proofs.Lists.{listed_length, listed_at}

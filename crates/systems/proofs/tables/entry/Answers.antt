@@ -1,5 +1,5 @@
 -- The entry, by the numbers of pairs and threes.
-use Rattle.std.proofs.Common.{◌-◌, arith}
+use Rattle.std.proofs.Common.{arith}
 use Rattle.models.proofs.Entries.{entry_is}
 use Rattle.systems.proofs.tables.entry.Goals as goal
 

@@ -1,9 +1,8 @@
-use Rattle.std.proofs.Common.{◌≡◌, take, sym, subst, arith}
+use Rattle.std.proofs.Common.{take, sym, subst, arith}
 use mathlib.Core.Path.{fun_ext}
 use Rattle.laws.specs.Outlines.{Marks}
 use Rattle.laws.specs.Theorems.{of}
 use Rattle.runs.specs.Calls.{Rounds}
-use Rattle.hull.specs.Records.{held}
 use Rattle.hull.proofs.Telling.{counts_by, tight_by}
 use Rattle.hull.proofs.hulls.DynamicHull.rounds.Goals as goal
 

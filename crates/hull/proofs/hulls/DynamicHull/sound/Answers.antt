@@ -1,4 +1,4 @@
-use Rattle.std.proofs.Common.{◌≡◌, ap, ◌∙◌, subst, subst₂}
+use Rattle.std.proofs.Common.{ap, ◌∙◌, subst, subst₂}
 use Rattle.hull.specs.Rings.{listed}
 use Rattle.hull.specs.Records.{Sound}
 use Rattle.hull.specs.Rows.{of_rows}

@@ -1,11 +1,11 @@
-use Rattle.std.proofs.Common.{◌≡◌, ℕ, ◌<◌, false, T, sym, refl, ap, ◌∙◌, subst, arith}
+use Rattle.std.proofs.Common.{◌≡◌, ℕ, ◌<◌, false, sym, refl, ap, ◌∙◌, subst, arith}
 use mathlib.Core.Path.{fun_ext}
 use Rattle.laws.specs.Outlines.{Marks}
 use Rattle.laws.specs.Theorems.{of}
 use Rattle.runs.specs.Calls.{Answers, RingOf, drop, dropped, to_drop, of_drop}
 use Rattle.runs.proofs.Decided.{less_marks}
 use Rattle.hull.specs.Rings.{listed}
-use Rattle.hull.specs.Records.{held, flagged, with_held, Sound}
+use Rattle.hull.specs.Records.{held, with_held, Sound}
 use Rattle.hull.proofs.Telling.{not_held}
 use Rattle.hull.proofs.Changes.{recorded, held_dropped, sound_dropped, drops_by}
 use Rattle.hull.proofs.records.HullState.remove.Goals as goal

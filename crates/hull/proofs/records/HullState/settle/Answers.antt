@@ -1,4 +1,4 @@
-use Rattle.std.proofs.Common.{◌≡◌, ℕ, ◌+◌, ◌<◌, length, get_or, sym, ◌∙◌, subst, subst₂, arith}
+use Rattle.std.proofs.Common.{◌≡◌, ◌<◌, length, get_or, sym, ◌∙◌, subst, arith}
 use Rattle.hull.specs.Rings.{listed, rotated}
 use Rattle.hull.specs.Records.{held, with_after, with_before}
 use Rattle.hull.proofs.Lists.{listed_length, listed_at}

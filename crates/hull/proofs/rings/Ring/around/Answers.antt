@@ -1,7 +1,7 @@
-use Rattle.std.proofs.Common.{◌≡◌, ℕ, ◌+◌, ◌-◌, ◌<◌, ◌≤◌, Bool, List, [], ◌∷◌, ◌++◌, length, get_or, drop, sym, refl, ap, ◌∙◌, subst, ap₂, append_assoc, append-nil, arith, length-append, drop_of_length-le}
+use Rattle.std.proofs.Common.{◌≡◌, ◌+◌, ◌-◌, ◌≤◌, ◌++◌, length, get_or, drop, sym, ap, ◌∙◌, subst, ap₂, append_assoc, append-nil, arith, length-append, drop_of_length-le}
 use Rattle.laws.specs.Outlines.{Outline}
 use Rattle.laws.specs.Theorems.{of}
-use Rattle.hull.specs.Rings.{listed, rotated, left_on}
+use Rattle.hull.specs.Rings.{listed, left_on}
 use Rattle.hull.proofs.Lists.{listed_length, listed_at, rotated_last}
 use Rattle.hull.proofs.Growth.{grown, whole, seen_by, grown_more, goes_round, whole_few}
 use Rattle.hull.proofs.rings.Ring.around.Goals as goal

@@ -1,5 +1,5 @@
-use Rattle.std.proofs.Common.{◌≡◌, ℕ, ◌+◌, ◌-◌, ◌/◌, ◌<◌, ◌≤◌, true, false, length, get_or, sym, refl, ◌∙◌, subst, ap₂, subst₂, arith}
-use Rattle.laws.specs.Systems.{Three, Left}
+use Rattle.std.proofs.Common.{ℕ, ◌+◌, ◌-◌, ◌/◌, ◌<◌, sym, ◌∙◌, ap₂, subst₂, arith}
+use Rattle.laws.specs.Systems.{Three}
 use Rattle.runs.specs.Calls.{Fan}
 use Rattle.hull.specs.Rings.{listed}
 use Rattle.hull.proofs.Lists.{listed_length, listed_at}

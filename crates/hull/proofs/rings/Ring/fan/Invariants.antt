@@ -1,4 +1,4 @@
-use Rattle.std.proofs.Common.{◌+◌, ◌-◌, ◌<◌, get_or}
+use Rattle.std.proofs.Common.{◌-◌, ◌<◌, get_or}
 use Rattle.laws.specs.Systems.{Left}
 use Rattle.hull.specs.Rings.{listed}
 use Rattle.hull.proofs.rings.Ring.fan.Given as goal

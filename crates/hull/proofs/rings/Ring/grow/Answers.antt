@@ -1,4 +1,4 @@
-use Rattle.std.proofs.Common.{[], ◌∷◌, ◌++◌, sym, subst, arith}
+use Rattle.std.proofs.Common.{[], ◌∷◌, ◌++◌, subst, arith}
 use Rattle.laws.specs.Outlines.{Turned}
 use Rattle.hull.specs.Rings.{listed}
 use Rattle.hull.proofs.Lists.{listed_length}

@@ -1,4 +1,4 @@
-use Rattle.std.proofs.Common.{◌≡◌, sym, ◌∙◌, ap₂, subst₂, arith}
+use Rattle.std.proofs.Common.{sym, ◌∙◌, ap₂, subst₂, arith}
 use Rattle.laws.specs.Systems.{Three}
 use Rattle.hull.specs.Rings.{listed}
 use Rattle.hull.proofs.Lists.{listed_length, listed_at}

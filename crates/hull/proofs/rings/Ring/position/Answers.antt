@@ -1,4 +1,4 @@
-use Rattle.std.proofs.Common.{◌<◌, sym, ◌∙◌, arith, rules}
+use Rattle.std.proofs.Common.{◌<◌, sym, ◌∙◌, arith}
 use Rattle.hull.proofs.Lists.{listed_length, listed_at}
 use Rattle.hull.proofs.rings.Ring.position.Goals as goal
 

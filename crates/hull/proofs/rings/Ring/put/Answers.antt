@@ -1,4 +1,4 @@
-use Rattle.std.proofs.Common.{◌≡◌, ◌+◌, Bool, ◌++◌, length, sym, ap, ◌∙◌, subst₂, arith}
+use Rattle.std.proofs.Common.{◌≡◌, ◌+◌, ◌++◌, length, sym, subst₂, arith}
 use Rattle.hull.specs.Rings.{listed, left_on}
 use Rattle.hull.proofs.Lists.{put_both}
 use Rattle.hull.proofs.rings.Ring.put.Goals as goal

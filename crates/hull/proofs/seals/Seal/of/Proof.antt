@@ -101,7 +101,7 @@ module _ (Y : RattleType) (g : Ghosts Y.Denot) (d : Dict) {M : Type 1} {𝓤 : U
         use0 𝓛 (‵ ((R Y g d).own_val (record { marker = record {}; system = x; rows = rows_of l.records; ring = listed l.ring }) (seal ∷ []))) (made Y g 𝓛 x (rows_of l.records) (listed l.ring) (subst (λ rs. Sound (g.meaning x) rs (listed l.ring)) (sym (of_rows_of l.records)) h)) $
         move ! (1 ∷ 2 ∷ 0 ∷ []) $ frame ! $ frame ! $ done !))
 
-    entry : (us vs : List Val) → (us ≡ u ∷ []) × (Unit {0} × Unit {0}) → (vs ≡ v ∷ []) × (Unit {0} × Unit {0}) → Goes us vs
+    entry : (us vs : List Val) → (us ≡ u ∷ []) × Unit {0} → (vs ≡ v ∷ []) × Unit {0} → Goes us vs
     entry us vs p q = subst (λ (ws : List Val). Goes ws vs) (sym p.0) (subst (λ (ws : List Val). Goes (u ∷ []) ws) (sym q.0) walks)
 
   meets : (𝓣 : Tables 𝓤 H) → Meets 𝓛 (ended Y g d).signature (WpFn 𝓤 H 𝓣.C 𝓣.Λ (function Y g d)) (closing 𝓛 (ended Y g d) held)

@@ -10,7 +10,7 @@ use prog.Memory.{Memory}
 use prog.Routine.{Routine}
 use prog.Wp.{Calls, Loops, WpFn, Tables}
 use types.Logic.{Logic, sem}
-use contract.Monad.{Fun, fact, fact_use}
+use contract.Monad.{Fun, fact_use}
 use contract.Running.{tables, tables_of}
 use sound.WpLaws.{WpFn-mono}
 use types.Kit.{‵, raw, ◌⊛◌, ◌$◌, ◌∵◌, !, qed, by, move, keep, drop, split, fsplit, fjoin, suffices, frame, done, use1, fpick, feq_i}
@@ -20,12 +20,13 @@ use denote.Exit.{yes}
 use denote.RattleType.{RattleType, owns}
 use denote.Laws.{Are, Ises, owns_show, showss}
 use denote.Signature.{types_at, plain}
-use denote.Memory.{shared_of, hidden_shr}
+use denote.Memory.{hidden_shr}
 use denote.Opens.{shr_dup, unhide}
 use denote.RawPtr.{block_ptr}
 use denote.Ref.{ShrRef}
 use denote.Steps.{nothing}
 use denote.Param.{bounded, param}
+use denote.Param.Laws.{Laws, param_laws}
 use denote.Struct.Lending.{lent_out}
 use denote.Struct.Owning.{shape}
 use denote.Struct.Struct.{Struct}
@@ -39,9 +40,9 @@ use Rattle.hull.specs.Records.{Sound}
 use Rattle.hull.specs.Rows.{of_rows}
 use Rattle.cc.specs.declared.CcSystem.{Ghosts}
 use Rattle.hull.specs.contracts.seals.Seal as S
-use Rattle.hull.proofs.Sealing.{seal}
 use Rattle.hull.specs.contracts.seals.Seal.says.{ended, clauses}
 use Rattle.hull.specs.contracts.seals.Seal.says.Key.{name as #self}
+use Rattle.hull.proofs.seals.Seal.TheLaws as seal_laws
 use Rattle.hull.proofs.seals.Seal.says.Statement as stated
 use Rattle.hull.proofs.seals.Seal.says.Code as code
 
@@ -55,7 +56,7 @@ module _ (Y : RattleType) (g : Ghosts Y.Denot) (d : Dict) where
   abbrev stayed : Stays (ended Y g d).signature.params (ended Y g d).kept
   stayed = (stay_none_ref (0 ∷ []) tt (plain (λ _. R)) yes, tt)
 
-module _ (Y : RattleType) (g : Ghosts Y.Denot) (d : Dict) {M : Type 1} {𝓤 : Ura M} (𝓛 : Logic 𝓤) (mem : Memory → SProp 𝓤) (run : Routine → Fun 𝓤) where
+module _ (Y : RattleType) (laws : Laws Y) (g : Ghosts Y.Denot) (d : Dict) {M : Type 1} {𝓤 : Ura M} (𝓛 : Logic 𝓤) (mem : Memory → SProp 𝓤) (run : Routine → Fun 𝓤) where
   open 𝓛 use {H}
 
   abbrev held : Clauses 𝓤 (ended Y g d)
@@ -95,7 +96,7 @@ module _ (Y : RattleType) (g : Ghosts Y.Denot) (d : Dict) {M : Type 1} {𝓤 : U
     walks : Goes (vptr b o ∷ [])
     walks =
         qed 𝓛 ((raw toks ⊛ ‵ (owns (ShrRef (named 0) κ (R Y g d) ∷ []) z.0.3 (vptr b o ∷ [], tt))) ∷ raw ((held z.0.0 z.0.3).requires z.1) ∷ []) ∵
-        split ! $ move ! (1 ∷ []) $ fsplit ! $ fsplit ! $ drop ! $ keep ! (0 ∷ 2 ∷ []) $ shr_dup ! (shared_of (R Y g d) s b o) κ $
+        split ! $ move ! (1 ∷ []) $ fsplit ! $ fsplit ! $ drop ! $ keep ! (0 ∷ 2 ∷ []) $ shr_dup ! (R Y g d) ((seal_laws.the_row_laws (param 0 Y) g (param_laws 0 Y laws)).shr_laws) s b o κ $
         use1 𝓛 (‵ (hidden_shr (Struct (shape (S.the_type (param 0 Y) g))) κ (tt, tt) b o) ⊛ ‵ (fhide (S.the_lent (param 0 Y) g s (block_ptr b o) κ)))
         (lent_out 𝓛 (S.struct (param 0 Y) g) (S.the_codes Y.Denot Y.coded (P.the_row (param 0 Y)).coded) (S.the_heap (param 0 Y) g) (S.the_lent (param 0 Y) g) κ s b o) $ split ! $
         move ! (1 ∷ []) $ unhide ! $ fpick ! (λ h. drop ! $ drop ! $
@@ -119,4 +120,4 @@ says_spec 𝓤 𝓛 𝓜 𝓡 wired Y laws g d met =
     let A = 𝓛.A in
     let 𝓣 : Tables 𝓤 𝓛.H = tables_of 𝓤 𝓛.H 𝓜 (tables 𝓤 𝓛.H 𝓜 𝓡 𝓡.env) in
     entered 𝓤 𝓛.H (triple_of 𝓛 (ended Y g d).signature (closing 𝓛 (ended Y g d) (clauses Y g d 𝓛 𝓜.mem 𝓡.returns))) 𝓣.C 𝓣.Λ (#self (bounded (a_type ∷ []) (Y, tt) (dcons d dnil))) (function Y g d) (code.unfolded 𝓤 𝓛.H 𝓜 𝓡 wired (Y, tt) d)
-    (meets Y g d 𝓛 𝓜.mem 𝓡.returns 𝓣)
+    (meets Y laws g d 𝓛 𝓜.mem 𝓡.returns 𝓣)
