@@ -4,7 +4,7 @@ use Rattle.cc.specs.declared.faults.Fault.{Fault}
 use Rattle.cc.specs.declared.faults.Fault.TheVariants.{Torn}
 use Rattle.sheet.specs.Fields.{Six, Lacks}
 use Rattle.sheet.specs.Forms.{Flawed, formless, beyond}
-use Rattle.sheet.specs.Shapes.{letter, head}
+use Rattle.sheet.specs.Shapes.{letter}
 use Rattle.sheet.specs.Sheets.{heads, limit, Unopened, headless, overcount}
 use Rattle.sheet.specs.declared.Kind.{Kind}
 use Rattle.sheet.specs.declared.Kind.TheVariants.{Points, Network, Table}

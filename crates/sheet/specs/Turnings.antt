@@ -5,7 +5,7 @@ use Rattle.std.proofs.lemmas.Bool.{eqb-false}
 use Rattle.std.proofs.lemmas.Fmt.{decimal_injective}
 use Rattle.sheet.specs.Fields.{Six, Lacks}
 use Rattle.sheet.specs.Shapes.{Parted, side, spelled, turning}
-use Rattle.sheet.specs.Sheets.{crossings, sixes, turn_line, turns}
+use Rattle.sheet.specs.Sheets.{crossings, sixes, turn_line}
 use Rattle.sheet.specs.Triples.{after, triple_at}
 use Rattle.sheet.specs.declared.entries.Triple.{Triple}
 use Rattle.cc.specs.declared.Turn.{Turn}

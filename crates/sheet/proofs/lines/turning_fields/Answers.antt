@@ -1,10 +1,7 @@
 use Rattle.std.proofs.Common.{length, refl, ap, arith, ltb-false, ltb-true}
-use Rattle.sheet.specs.Cuts.{Cuts, only_turning, rest_unique, cut_none, no_side, no_letter, sided, single}
+use Rattle.sheet.specs.Cuts.{only_turning, rest_unique, cut_none, no_side, no_letter}
 use Rattle.sheet.proofs.lines.turning_fields.Goals as goal
-use Rattle.sheet.proofs.lines.turning_fields.Goals.{In_ok-k, in_default-via-then-last-lt1, in_default-via-else-last-lt1+else-last-lt2}
-
-cuts : (c : In_ok-k) → Cuts c.args.fields.now c.in_ok-i.i.now c.in_ok-i.after_i.now c.in_ok-j.j.now c.in_ok-j.after_j.now c.in_ok-k.k.now c.in_ok-k.last.now
-cuts c = record { at_i = c.in_ok-i.ensures; at_j = c.in_ok-j.ensures; at_k = c.in_ok-k.ensures }
+use Rattle.sheet.proofs.lines.turning_fields.Goals.{in_default-via-then-last-lt1, in_default-via-else-last-lt1+else-last-lt2}
 
 pub returns-in_err-i : goal.returns-in_err-i
 returns-in_err-i c =
@@ -22,18 +19,14 @@ returns-in_err-k c =
 
 pub returns-in_default : goal.returns-in_default
 returns-in_default c =
-    no_side (cuts (goal.at.returns-in_default c).In_ok-k)
+    no_side (record { at_i = c.in_ok-i.ensures; at_j = c.in_ok-j.ensures; at_k = c.in_ok-k.ensures })
     (λ t e. elim c.in_default.branch [
       | in_default-via-then-last-lt1 w ↦ omega (arith, ltb-true, ap length e)
       | in_default-via-else-last-lt1+else-last-lt2 w ↦ omega (arith, ltb-false, ap length e)
     ])
 
-pub returns : goal.returns
-returns c =
-    sided (cuts (goal.at.returns c).In_ok-k) c.in_ok-turn.turn (single _ _ (omega (arith, ltb-true, ltb-false)) c.in_ok-turn.ensures)
-
 pub returns-in_err-turn : goal.returns-in_err-turn
 returns-in_err-turn c =
     let told = c.in_err-turn.ensures in
     rw c.from_residual-in_err-turn.ensures
-    (no_side (cuts (goal.at.returns-in_err-turn c).In_ok-k) (no_letter _ _ refl told.0 told.1))
+    (no_side (record { at_i = c.in_ok-i.ensures; at_j = c.in_ok-j.ensures; at_k = c.in_ok-k.ensures }) (no_letter _ _ refl told.0 told.1))
