@@ -2,7 +2,7 @@
 use Rattle.std.proofs.Common.{◌≡◌, ℕ, zero, suc, ◌+◌, ◌<◌, ◌≤◌, List, [], ◌∷◌, ◌++◌, length, get_or, take, drop, set, sym, refl, ap, ◌∙◌, subst, append_assoc, add-one, arith, take-append-drop, length-take-le, drop-cons, get_or-take, take-suc-set, below_more}
 use lib.ListN.{get_or-append}
 use lib.Seq.{get_or_at, drop-append-le}
-use Rattle.std.specs.List.{AllByRecursion as All}
+use Rattle.std.specs.List.{AllByRecursion}
 use Rattle.std.proofs.lemmas.List.{take_more}
 use Rattle.std.proofs.ByRecursion.{All-append, All-from_get_or}
 use Rattle.laws.specs.Outlines.{Follows, ReadOut}
@@ -55,9 +55,9 @@ read_out_from [] (suc p) inside low = tt
 read_out_from (a ∷ l) p inside low =
     let k = a ∷ l in
     let h = inside (omega arith) in
-    let (front, back) = all_cut _ (take p k) (drop p k) (subst (All (λ c. get_or k p 0 ≤ c)) (sym (take-append-drop p k)) (All-from_get_or _ k 0 low)) in
+    let (front, back) = all_cut _ (take p k) (drop p k) (subst (AllByRecursion (λ c. get_or k p 0 ≤ c)) (sym (take-append-drop p k)) (All-from_get_or _ k 0 low)) in
     subst (λ d. ReadOut (d ++ take p k)) (sym (drop-cons k p 0 h))
-    (All-append _ (drop (suc p) k) (take p k) (subst (All (λ c. get_or k p 0 ≤ c)) (drop-cons k p 0 h) back).1 front)
+    (All-append _ (drop (suc p) k) (take p k) (subst (AllByRecursion (λ c. get_or k p 0 ≤ c)) (drop-cons k p 0 h) back).1 front)
 
 -- b is the place of the lowest of the first i
 abbrev pub Best : List ℕ → ℕ → ℕ → Type 0

@@ -1,7 +1,7 @@
 -- Arcs of a set of marks: what one more mark does to them, and which walks along them are the whole hull.
 use Rattle.std.proofs.Common.{◌≡◌, ℕ, ◌<◌, ◌≢◌, ◌⊎◌, List, ◌∷◌, sym, refl, ◌∙◌, subst, inl, inr}
 use mathlib.Core.Logic.{Ne-symm, ⊎_swap}
-use Rattle.std.specs.List.{AllByRecursion as All}
+use Rattle.std.specs.List.{AllByRecursion}
 use Rattle.laws.specs.Systems.{Meaning, Left, Lawful}
 use Rattle.laws.specs.Outlines.{Marks, adding, Arc, Step, Hull, Around}
 use Rattle.laws.proofs.Turns.{cyclic², opposite, transitive'}
@@ -115,7 +115,7 @@ module _ {m : Meaning} (L : Lawful m) {s : ℕ → Type 0} where
         L.nondegenerate (record { p_in = marks h hh; q_in = marks q hq; r_in = hx; p≢q = Ne-symm n; q≢r = n'; r≢p = n'' })
 
     -- x does not see every arc of a hull
-    pub not_all : {h x : ℕ} {l : List ℕ} → Walk (λ p q. Arc m s p q × Left m p x q) h l h → All (λ c. c ≢ h) l → ⊥
+    pub not_all : {h x : ℕ} {l : List ℕ} → Walk (λ p q. Arc m s p q × Left m p x q) h l h → AllByRecursion (λ c. c ≢ h) l → ⊥
     not_all (end r) n = r.0.apart refl
     not_all {h} {x} (on r w) n =
         elim (leave decide n.1 r.1 w) [
@@ -131,7 +131,7 @@ module _ {m : Meaning} (L : Lawful m) {s : ℕ → Type 0} where
             ⊎_swap (turn r.0.from a.to k.three.q_in n' (Ne-symm k.three.q≢r) (Ne-symm r.1.three.p≢q))
 
     -- x left of every arc of a hull: some triangle of the fan from h is around it
-    pub fan : {h x : ℕ} {l : List ℕ} → Walk (λ p q. Arc m s p q × Left m p q x) h l h → All (λ c. c ≢ h) l
+    pub fan : {h x : ℕ} {l : List ℕ} → Walk (λ p q. Arc m s p q × Left m p q x) h l h → AllByRecursion (λ c. c ≢ h) l
         → (p q : ℕ) × Arc m s p q × Around m h p q x
     fan (end r) n = absurd (r.0.apart refl)
     fan {h} {x} (on r w) n =
@@ -144,15 +144,15 @@ module _ {m : Meaning} (L : Lawful m) {s : ℕ → Type 0} where
         decide p q (a, k) n' = turn r.0.from a.to k.three.r_in n' k.three.q≢r r.1.three.r≢p
 
     -- a closed walk along arcs, back at the first mark for the first time, is the whole hull
-    pub whole : {h : ℕ} {l : List ℕ} → Walk (Arc m s) h l h → All (λ c. c ≢ h) l → Hull m s (h ∷ l)
+    pub whole : {h : ℕ} {l : List ℕ} → Walk (Arc m s) h l h → AllByRecursion (λ c. c ≢ h) l → Hull m s (h ∷ l)
     whole {h} {l} w n = record { apart = (n, apart one_after w n); arcs = λ p q. (step w p q, λ a. back p q a (found p w)) }
       where
-        off : (p q : ℕ) → Arc m s p q → All (λ c. c ≢ p) (h ∷ l) → ⊥
+        off : (p q : ℕ) → Arc m s p q → AllByRecursion (λ c. c ≢ p) (h ∷ l) → ⊥
         off p q a ns =
             let sees = walk_map (λ u v k. (k.0, k.0.left p a.from (Ne-symm k.1) (Ne-symm k.2))) (walk_all w ns ns.0) in
             let (u, v, b, f) = fan sees n in
             stuck (first w).from b.from b.to (cyclic² L f.hpx) (cyclic² L f.pqx) (cyclic² L f.qhx) a
 
-        back : (p q : ℕ) → Arc m s p q → ((q' : ℕ) × Step h l h p q' × Arc m s p q') ⊎ All (λ c. c ≢ p) (h ∷ l) → Step h l h p q
+        back : (p q : ℕ) → Arc m s p q → ((q' : ℕ) × Step h l h p q' × Arc m s p q') ⊎ AllByRecursion (λ c. c ≢ p) (h ∷ l) → Step h l h p q
         back p q a (inl (q', k, b)) = subst (Step h l h p) (one_after p q' q b a) k
         back p q a (inr ns) = absurd (off p q a ns)

@@ -3,7 +3,7 @@ use Rattle.std.proofs.Common.{◌≡◌, ℕ, zero, suc, ◌<◌, ◌≤◌, ◌
 use mathlib.Core.Logic.Iff
 use mathlib.Core.Logic.{Ne-symm, ⊎_swap}
 use native.Mathlib.Decide.{dec_le}
-use Rattle.std.specs.List.{AllByRecursion as All}
+use Rattle.std.specs.List.{AllByRecursion}
 use Rattle.std.proofs.ByRecursion.{All-append, All-weaker}
 use Rattle.laws.specs.Systems.{Meaning, Left, Lawful}
 use Rattle.laws.specs.Outlines.{Marks, adding, Arc, Hull, Outline, none, one, more, ReadOut, Turned}
@@ -103,7 +103,7 @@ module _ {m : Meaning} (L : Lawful m) where
       subst (Outline m s) (sym e') (outline_of _ _ (hull L marks (from L marks a' b' (loop r))))
 
   -- the lowest mark of a list
-  lowest : (a : ℕ) (l : List ℕ) → (k : List ℕ) × (b : ℕ) × (j : List ℕ) × (a ∷ l ≡ k ++ b ∷ j) × All (λ c. b ≤ c) k × All (λ c. b ≤ c) j
+  lowest : (a : ℕ) (l : List ℕ) → (k : List ℕ) × (b : ℕ) × (j : List ℕ) × (a ∷ l ≡ k ++ b ∷ j) × AllByRecursion (λ c. b ≤ c) k × AllByRecursion (λ c. b ≤ c) j
   lowest a [] = ([], a, [], refl, tt, tt)
   lowest a (c ∷ l) =
       let (k, b, j, e, below, behind) = lowest c l in
@@ -114,7 +114,7 @@ module _ {m : Meaning} (L : Lawful m) where
           c ∷ l,
           refl,
           tt,
-          subst (All (λ x. a ≤ x)) (sym e) (All-append _ k (b ∷ j) (All-weaker _ _ (λ x h. omega arith) k below) (i, All-weaker _ _ (λ x h. omega arith) j behind)),
+          subst (AllByRecursion (λ x. a ≤ x)) (sym e) (All-append _ k (b ∷ j) (All-weaker _ _ (λ x h. omega arith) k below) (i, All-weaker _ _ (λ x h. omega arith) j behind)),
         )
         | no i ↦ (a ∷ k, b, j, ap (λ x. a ∷ x) e, (omega arith, below), behind)
       ]
@@ -125,7 +125,7 @@ module _ {m : Meaning} (L : Lawful m) where
   started marks (one h u) = (_, one h u, tt)
   started {s} marks (more {a = a} {b = b} {l = l} r) = go (lowest a (b ∷ l))
     where
-      go : ((k : List ℕ) × (c : ℕ) × (j : List ℕ) × (a ∷ b ∷ l ≡ k ++ c ∷ j) × All (λ d. c ≤ d) k × All (λ d. c ≤ d) j) → (k : List ℕ) × Outline m s k × ReadOut k
+      go : ((k : List ℕ) × (c : ℕ) × (j : List ℕ) × (a ∷ b ∷ l ≡ k ++ c ∷ j) × AllByRecursion (λ d. c ≤ d) k × AllByRecursion (λ d. c ≤ d) j) → (k : List ℕ) × Outline m s k × ReadOut k
       go ([], c, j, e, k, i) = (c ∷ j, subst (Outline m s) e (more r), i)
       go (a' ∷ k, c, j, e, i, i') =
           (c ∷ j ++ a' ∷ k, outline_turned marks _ _ (a' ∷ k, c ∷ j, e, refl) (more r), All-append _ j (a' ∷ k) i' i)

@@ -1,7 +1,7 @@
 -- The fan of a hull from its first mark: a mark that is left of every arc is in just one of its triangles.
 use Rattle.std.proofs.Common.{◌≡◌, ℕ, ◌≤◌, ◌≢◌, List, [], ◌∷◌, length, sym, refl, subst, inl, inr, arith}
 use mathlib.Core.Logic.{Ne-symm}
-use Rattle.std.specs.List.{AllByRecursion as All}
+use Rattle.std.specs.List.{AllByRecursion}
 use Rattle.laws.specs.Systems.{Meaning, Left, Lawful}
 use Rattle.laws.specs.Outlines.{Marks, Arc, Follows, Hull, Outline, none, one, more, Around}
 use Rattle.laws.proofs.Turns.{cyclic², opposite}
@@ -34,7 +34,7 @@ module _ {m : Meaning} (L : Lawful m) {s : ℕ → Type 0} where
       (p, q, (r.arcs p q).1 a, f)
 
   -- with a mark off it, an outline has three marks or more
-  pub three_or_more : {x : ℕ} {l : List ℕ} → Outline m s l → s x → All (λ c. c ≢ x) l → 3 ≤ length l
+  pub three_or_more : {x : ℕ} {l : List ℕ} → Outline m s l → s x → AllByRecursion (λ c. c ≢ x) l → 3 ≤ length l
   three_or_more (none h) k n = absurd (h _ k)
   three_or_more (one h u) k n = absurd (n.0 (sym (u _ k)))
   three_or_more (more {a = a} {b = b} {l = []} r) k n =

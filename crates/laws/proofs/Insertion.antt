@@ -1,7 +1,7 @@
 -- One more mark: the hull of s with x.
 use Rattle.std.proofs.Common.{ℕ, ◌<◌, ◌≢◌, ◌⊎◌, List, [], ◌∷◌, ◌++◌, sym, refl, subst, inl, inr, append_assoc, append-nil}
 use mathlib.Core.Logic.{Ne-symm, ⊎_swap}
-use Rattle.std.specs.List.{AllByRecursion as All}
+use Rattle.std.specs.List.{AllByRecursion}
 use Rattle.std.proofs.ByRecursion.{All-append}
 use Rattle.laws.specs.Systems.{Meaning, Left, Lawful}
 use Rattle.laws.specs.Outlines.{Marks, adding, Arc, Follows, Hull, Turned, Grown}
@@ -11,7 +11,7 @@ use Rattle.laws.proofs.Arcs.{one_after, one_before, kept, arc_to, arc_from, turn
 -- a closed walk along arcs, back at h for the first time
 pub record Loop (m : Meaning) (s : ℕ → Type 0) (h : ℕ) (l : List ℕ) : Type 0 where
   pub walk : Walk (Arc m s) h l h
-  pub away : All (λ c. c ≢ h) l
+  pub away : AllByRecursion (λ c. c ≢ h) l
 
 pub loop : {m : Meaning} {s : ℕ → Type 0} {h : ℕ} {l : List ℕ} → Hull m s (h ∷ l) → Loop m s h l
 loop {h = h} {l = l} r = record { walk = steps h l h (λ p q k. (r.arcs p q).0 k); away = r.apart.0 }
@@ -61,7 +61,7 @@ module _ {m : Meaning} (L : Lawful m) {s : ℕ → Type 0} (marks : Marks m s) w
     after_seen a b = arc_from L a.0 a.1 b.0 b.1
 
     -- x sees the arcs from t through gone to t', and not those from t' through rest to t: it takes the place of gone
-    pub replace : {t t' : ℕ} {gone rest : List ℕ} → Walk Seen t gone t' → Walk Hidden t' rest t → t ≢ t' → All (λ c. c ≢ t') rest
+    pub replace : {t t' : ℕ} {gone rest : List ℕ} → Walk Seen t gone t' → Walk Hidden t' rest t → t ≢ t' → AllByRecursion (λ c. c ≢ t') rest
         → Hull m (adding s x) (t' ∷ rest ++ t ∷ x ∷ [])
     replace {t} {rest = rest} v w n ns =
         whole L (marks' m marks x_in)
@@ -101,7 +101,7 @@ module _ {m : Meaning} (L : Lawful m) {s : ℕ → Type 0} (marks : Marks m s) w
         grown (rw append_assoc (from (k ++ t ∷ k') l (rw append_assoc o))) v (join (stays hidden_or never ns f' u) w)
         (h ∷ k ++ t ∷ k', t' ∷ l, sym (append_assoc (h ∷ k) (t ∷ k') (t' ∷ l)), append_assoc (t' ∷ l) (h ∷ k) (t ∷ k'))
       where
-        ns : All (λ c. c ≢ t) l
+        ns : AllByRecursion (λ c. c ≢ t) l
         ns = (all_cut _ k' (t' ∷ l) (apart_mid k t (k' ++ t' ∷ l) (hull o).apart.1).1).1.1
 
         never : (a c b : ℕ) → c ≢ t → Hidden a c → Seen c b → ⊥
@@ -116,7 +116,7 @@ module _ {m : Meaning} (L : Lawful m) {s : ℕ → Type 0} (marks : Marks m s) w
         grown (rw append_assoc at (from k (k' ++ t ∷ l) o)) (join (stays seen_or never ns f' u) v) w
         (h ∷ k, t' ∷ k' ++ t ∷ l, refl, sym (append_assoc (t' ∷ k') (t ∷ l) (h ∷ k)))
       where
-        ns : All (λ c. c ≢ t') l
+        ns : AllByRecursion (λ c. c ≢ t') l
         ns = (all_cut _ k' (t ∷ l) (apart_mid k t' (k' ++ t ∷ l) (hull o).apart.1).1).1.1
 
         never : (a c b : ℕ) → c ≢ t' → Seen a c → Hidden c b → ⊥

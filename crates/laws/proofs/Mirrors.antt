@@ -2,7 +2,7 @@
 use Rattle.std.proofs.Common.{ℕ, List, [], ◌∷◌, reverse, sym, refl, subst, inl, inr}
 use mathlib.Core.List.{reverse-cons}
 use mathlib.Core.Logic.{Ne-symm}
-use Rattle.std.specs.List.{AllByRecursion as All}
+use Rattle.std.specs.List.{AllByRecursion}
 use Rattle.std.proofs.ByRecursion.{All-append}
 use Rattle.laws.specs.Systems.{Meaning, Left, Right, Lawful}
 use Rattle.laws.specs.Outlines.{Marks, Arc, Hull, Outline, none, one, more}
@@ -45,9 +45,9 @@ left_in_mirror {m} L h = left_right (mirror_lawful L) (in_mirror m h)
 pub right_in_mirror : {m : Meaning} → Lawful m → {p q r : ℕ} → Right m p q r → Left (mirrored m) p q r
 right_in_mirror {m} L h = in_mirror m (right_left L h)
 
-reverse_all : (P : ℕ → Type 0) (l : List ℕ) → All P l → All P (reverse l)
+reverse_all : (P : ℕ → Type 0) (l : List ℕ) → AllByRecursion P l → AllByRecursion P (reverse l)
 reverse_all P [] h = tt
-reverse_all P (a ∷ l) h = subst (All P) (sym (reverse-cons a l)) (All-append P (reverse l) (a ∷ []) (reverse_all P l h.1) (h.0, tt))
+reverse_all P (a ∷ l) h = subst (AllByRecursion P) (sym (reverse-cons a l)) (All-append P (reverse l) (a ∷ []) (reverse_all P l h.1) (h.0, tt))
 
 reverse_walk : {R : ℕ → ℕ → Type 0} {a b : ℕ} {l : List ℕ} → Walk R a l b → Walk (λ p q. R q p) b (reverse l) a
 reverse_walk (end r) = end r

@@ -1,7 +1,7 @@
 -- Lists of names: when their marks are different and below the count.
 use Rattle.std.proofs.Common.{◌≡◌, ℕ, zero, suc, ◌+◌, ◌<◌, ◌≤◌, max, Bool, true, false, not, ◌&&◌, T, eqb, ltb, ◌≢◌, List, [], ◌∷◌, length, take, sym, refl, ap, ◌∙◌, subst, add-one, arith, ltb→lt, T_not, lt-ltb, ne_eqb}
 use lib.Dec.{eqb_refl}
-use Rattle.std.specs.List.{AllByRecursion as All}
+use Rattle.std.specs.List.{AllByRecursion}
 use Rattle.laws.specs.Outlines.{Apart}
 use Rattle.laws.specs.Layers.{named, fresh, different, unlike, past}
 
@@ -18,14 +18,14 @@ and true true h k = tt
 and true false h k = absurd k
 and false b h k = absurd h
 
-fresh_all : (x : ℕ) (xs : List ℕ) → T (fresh x xs) → All (λ y. y ≢ x) xs
+fresh_all : (x : ℕ) (xs : List ℕ) → T (fresh x xs) → AllByRecursion (λ y. y ≢ x) xs
 fresh_all x [] h = tt
 fresh_all x (y ∷ ys) h =
     let (n, k) = both (not (eqb x y)) (fresh x ys) h in
     (λ e. T_not (eqb x y) n (subst (λ z. T (eqb x z)) (sym e) (eqb_refl x)), fresh_all x ys k)
 
 -- a list that passes the test has different marks below n
-pub different_apart : (n : ℕ) (xs : List ℕ) → T (different n xs) → Apart xs × All (λ x. x < n) xs
+pub different_apart : (n : ℕ) (xs : List ℕ) → T (different n xs) → Apart xs × AllByRecursion (λ x. x < n) xs
 different_apart n [] h = (tt, tt)
 different_apart n (x ∷ xs) h =
     let (i, k) = both (ltb x n) (fresh x xs && different n xs) h in

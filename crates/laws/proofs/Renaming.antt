@@ -1,6 +1,6 @@
 -- Marks under other names: the laws, and the outlines, which correspond.
 use Rattle.std.proofs.Common.{◌≡◌, ℕ, zero, suc, ◌<◌, ◌≢◌, List, [], ◌∷◌, map, length, sym, refl, ap, ◌∙◌, subst, inl, inr, arith}
-use Rattle.std.specs.List.{AllByRecursion as All}
+use Rattle.std.specs.List.{AllByRecursion}
 use Rattle.std.proofs.ByRecursion.{All-get_or}
 use Rattle.laws.specs.Systems.{Meaning, Three, Left, Lawful}
 use Rattle.laws.specs.Outlines.{Marks, Arc, Apart, Hull, Outline, none, one, more}
@@ -23,7 +23,7 @@ pub named_same : (xs : List ℕ) → Apart xs → (i j : ℕ) → i < length xs 
 named_same xs apart i j hi hj e = elim (other i j) [ inl d ↦ d | inr n ↦ absurd (named_apart xs apart i j hi hj n e) ]
 
 -- three different names are three different marks
-pub in_names : (m : Meaning) (xs : List ℕ) → Apart xs → All (λ x. x < m.count) xs → {i j k : ℕ} → Three (length xs) i j k
+pub in_names : (m : Meaning) (xs : List ℕ) → Apart xs → AllByRecursion (λ x. x < m.count) xs → {i j k : ℕ} → Three (length xs) i j k
     → Three m.count (named xs i) (named xs j) (named xs k)
 in_names m xs apart small t =
     record {
@@ -35,7 +35,7 @@ in_names m xs apart small t =
       r≢p = named_apart xs apart _ _ t.r_in t.p_in t.r≢p;
     }
 
-module _ {m : Meaning} (L : Lawful m) (xs : List ℕ) (apart : Apart xs) (small : All (λ x. x < m.count) xs) where
+module _ {m : Meaning} (L : Lawful m) (xs : List ℕ) (apart : Apart xs) (small : AllByRecursion (λ x. x < m.count) xs) where
   pub left_in : {i j k : ℕ} → Left (picked m xs) i j k → Left m (named xs i) (named xs j) (named xs k)
   left_in h = record { three = in_names m xs apart small h.three; turns = h.turns }
 
@@ -88,11 +88,11 @@ module _ {m : Meaning} (L : Lawful m) (xs : List ℕ) (apart : Apart xs) (small 
     picked_walk (end r) = end (picked_arc r)
     picked_walk (on r w) = on (picked_arc r) (picked_walk w)
 
-    all_in : {i j : ℕ} {l : List ℕ} → Walk (Arc (picked m xs) s) i l j → All s l
+    all_in : {i j : ℕ} {l : List ℕ} → Walk (Arc (picked m xs) s) i l j → AllByRecursion s l
     all_in (end r) = tt
     all_in (on r w) = (r.to, all_in w)
 
-    away : (h : ℕ) → s h → (l : List ℕ) → All s l → All (λ c. c ≢ h) l → All (λ c. c ≢ named xs h) (map (named xs) l)
+    away : (h : ℕ) → s h → (l : List ℕ) → AllByRecursion s l → AllByRecursion (λ c. c ≢ h) l → AllByRecursion (λ c. c ≢ named xs h) (map (named xs) l)
     away h k [] i n = tt
     away h k (a ∷ l) i n = (named_apart xs apart a h (marks a i.0) (marks h k) n.0, away h k l i.1 n.1)
 
@@ -126,16 +126,16 @@ module _ {m : Meaning} (L : Lawful m) (xs : List ℕ) (apart : Apart xs) (small 
               (a.left (named xs r) (r, h, refl) (named_apart xs apart r i hr hi n) (named_apart xs apart r j hr hj n'));
         }
 
-    back_walk : (i : ℕ) (l : List ℕ) (j : ℕ) → All (λ c. c < length xs) (i ∷ l) → j < length xs
+    back_walk : (i : ℕ) (l : List ℕ) (j : ℕ) → AllByRecursion (λ c. c < length xs) (i ∷ l) → j < length xs
         → Walk (Arc m (image xs s)) (named xs i) (map (named xs) l) (named xs j) → Walk (Arc (picked m xs) s) i l j
     back_walk i [] j h hj (end r) = end (back_arc h.0 hj r)
     back_walk i (c ∷ l) j h hj (on r w) = on (back_arc h.0 h.1.0 r) (back_walk c l j h.1 hj w)
 
-    back_away : (h : ℕ) (l : List ℕ) → All (λ c. c ≢ named xs h) (map (named xs) l) → All (λ c. c ≢ h) l
+    back_away : (h : ℕ) (l : List ℕ) → AllByRecursion (λ c. c ≢ named xs h) (map (named xs) l) → AllByRecursion (λ c. c ≢ h) l
     back_away h [] n = tt
     back_away h (a ∷ l) n = (λ e. n.0 (ap (named xs) e), back_away h l n.1)
 
-    pub back_outline : (l : List ℕ) → All (λ c. c < length xs) l → Outline m (image xs s) (map (named xs) l) → Outline (picked m xs) s l
+    pub back_outline : (l : List ℕ) → AllByRecursion (λ c. c < length xs) l → Outline m (image xs s) (map (named xs) l) → Outline (picked m xs) s l
     back_outline [] h (none k) = none (λ p i. k (named xs p) (p, i, refl))
     back_outline (a ∷ []) h (one k u) = one (in_s h.0 k) (λ p i. named_same xs apart p a (marks p i) h.0 (u _ (p, i, refl)))
     back_outline (a ∷ b ∷ l) h (more r) =

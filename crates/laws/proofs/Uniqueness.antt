@@ -1,6 +1,6 @@
 -- Two outlines of a set are one ring, started at two places; started at the lowest mark they are the same list.
 use Rattle.std.proofs.Common.{◌≡◌, ℕ, ◌≢◌, List, [], ◌∷◌, sym, refl, ap, ◌∙◌, subst, ap₂, inl, inr, append-nil, arith}
-use Rattle.std.specs.List.{AllByRecursion as All}
+use Rattle.std.specs.List.{AllByRecursion}
 use Rattle.laws.specs.Systems.{Meaning, Lawful}
 use Rattle.laws.specs.Outlines.{Marks, Arc, Apart, Step, Hull, Outline, none, one, more, Turned, ReadOut}
 use Rattle.laws.proofs.Walks.{other, seek, same, all_cut}
@@ -16,7 +16,7 @@ pub first_arc : {m : Meaning} {s : ℕ → Type 0} {a b : ℕ} {l : List ℕ} �
 first_arc r = (r.arcs _ _).0 (inl (refl, refl))
 
 -- a mark with a follower is on the way
-pub on_way : (a : ℕ) (l : List ℕ) (b p q : ℕ) → Step a l b p q → All (λ c. c ≢ p) (a ∷ l) → ⊥
+pub on_way : (a : ℕ) (l : List ℕ) (b p q : ℕ) → Step a l b p q → AllByRecursion (λ c. c ≢ p) (a ∷ l) → ⊥
 on_way a [] b p q k n = n.0 (sym k.0)
 on_way a (c ∷ l) b p q (inl k) n = n.0 (sym k.0)
 on_way a (c ∷ l) b p q (inr k) n = on_way c l b p q k n.1

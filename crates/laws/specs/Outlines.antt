@@ -1,7 +1,7 @@
 -- Arcs of a set of marks, rings of marks, and which ring is the outline of a set.
 -- A set of marks is given by a predicate s: s p says that p is in the set.
 use Rattle.std.specs.Prelude.{◌≡◌, ℕ, ◌<◌, ◌≤◌, ◌≢◌, ◌⊎◌, ◌↔◌, List, [], ◌∷◌, ◌++◌}
-use Rattle.std.specs.List.{AllByRecursion as All}
+use Rattle.std.specs.List.{AllByRecursion}
 use Rattle.laws.specs.Systems.{Meaning, Left}
 
 -- s is a set of marks of the system
@@ -22,7 +22,7 @@ pub record Arc (m : Meaning) (s : ℕ → Type 0) (p q : ℕ) : Type 0 where
 -- no mark stands twice
 abbrev pub Apart : List ℕ → Type 0
 Apart [] = Unit {0}
-Apart (a ∷ l) = All (λ b. b ≢ a) l × Apart l
+Apart (a ∷ l) = AllByRecursion (λ b. b ≢ a) l × Apart l
 
 -- on the way from a through l to b, q comes right after p
 abbrev pub Step : ℕ → List ℕ → ℕ → ℕ → ℕ → Type 0
@@ -49,7 +49,7 @@ pub data Outline (m : Meaning) (s : ℕ → Type 0) : List ℕ → Type 0 where
 -- the ring starts at its lowest mark
 abbrev pub ReadOut : List ℕ → Type 0
 ReadOut [] = Unit {0}
-ReadOut (a ∷ l) = All (λ b. a ≤ b) l
+ReadOut (a ∷ l) = AllByRecursion (λ b. a ≤ b) l
 
 -- the second ring is the first, started at another place
 abbrev pub Turned : List ℕ → List ℕ → Type 0

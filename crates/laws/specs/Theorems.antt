@@ -1,6 +1,6 @@
 -- What holds of outlines in every lawful system. A set of marks is given here by its test, s : ℕ → Bool.
 use Rattle.std.specs.Prelude.{◌≡◌, ℕ, ◌<◌, ◌≤◌, Bool, T, ◌≢◌, ◌⊎◌, ◌↔◌, List, ◌∷◌, map, reverse, length}
-use Rattle.std.specs.List.{AllByRecursion as All}
+use Rattle.std.specs.List.{AllByRecursion}
 use Rattle.laws.specs.Systems.{Meaning, Left, Lawful}
 use Rattle.laws.specs.Outlines.{Marks, adding, Apart, Follows, Hull, Outline, ReadOut, Turned, Grown, Around}
 use Rattle.laws.specs.Layers.{mirrored, reversed, named, picked, image, Layer, pile, means, Meant, odd, backwards_if}
@@ -39,7 +39,7 @@ Fan =
 -- an outline with a mark of the set off it has three marks or more
 abbrev pub ThreeOrMore : Type 0
 ThreeOrMore =
-    (m : Meaning) (s : ℕ → Bool) (l : List ℕ) (x : ℕ) → Lawful m → Outline m (of s) l → of s x → All (λ c. c ≢ x) l → 3 ≤ length l
+    (m : Meaning) (s : ℕ → Bool) (l : List ℕ) (x : ℕ) → Lawful m → Outline m (of s) l → of s x → AllByRecursion (λ c. c ≢ x) l → 3 ≤ length l
 
 -- every set of marks has an outline that starts at its lowest mark
 abbrev pub Existence : Type 0
@@ -66,8 +66,8 @@ Mirrored =
 -- different marks under new names make a lawful system, and its outlines stand for the outlines
 abbrev pub Picked : Type 0
 Picked =
-    (m : Meaning) (xs : List ℕ) (s : ℕ → Bool) (l : List ℕ) → Lawful m → Apart xs → All (λ x. x < m.count) xs
-    → Marks (picked m xs) (of s) → All (λ i. i < length xs) l
+    (m : Meaning) (xs : List ℕ) (s : ℕ → Bool) (l : List ℕ) → Lawful m → Apart xs → AllByRecursion (λ x. x < m.count) xs
+    → Marks (picked m xs) (of s) → AllByRecursion (λ i. i < length xs) l
     → Lawful (picked m xs) × (Outline (picked m xs) (of s) l ↔ Outline m (image xs (of s)) (map (named xs) l))
 
 -- a pile of any length over a lawful system is lawful, and by what its marks mean its outlines are outlines below it,

@@ -1,7 +1,7 @@
 -- In a network every two wires cross once, and the order of the crossings keeps the laws.
 use Rattle.std.proofs.Common.{◌≡◌, ℕ, zero, suc, ◌<◌, ◌≤◌, Bool, true, false, T, ltb, ◌≢◌, List, [], ◌∷◌, length, get_or, sym, refl, ap, subst, arith, ltb→lt, le-ltb, lt-ltb}
 use native.Mathlib.Decide.{dec_lt}
-use Rattle.std.specs.List.{AllByRecursion as All}
+use Rattle.std.specs.List.{AllByRecursion}
 use Rattle.laws.specs.Outlines.{Apart}
 use Rattle.laws.specs.Systems.{Lawful}
 use Rattle.laws.proofs.Counts.{few}
@@ -38,14 +38,14 @@ module _ (n : ℕ) (cs : List ℕ) (range : (t : ℕ) → t < length cs → InRa
   crossed_long zero = refl
   crossed_long (suc t) = ap suc (crossed_long t)
 
-  crossed_below : (t : ℕ) → t ≤ length cs → All (λ c. c < pairs n) (crossed t)
+  crossed_below : (t : ℕ) → t ≤ length cs → AllByRecursion (λ c. c < pairs n) (crossed t)
   crossed_below zero h = tt
   crossed_below (suc t) h =
       (place2_below n (upper cs t) (lower cs t) (legal t h) (lower_in t h), crossed_below t (omega arith))
 
   -- a pair that none of them swaps is not among these
   not_crossed : (i j : ℕ) → i < j → j < n → (t : ℕ) → t ≤ length cs → ((s : ℕ) → s < t → Cross cs i j s → ⊥) →
-      All (λ c. c ≢ place2 n i j) (crossed t)
+      AllByRecursion (λ c. c ≢ place2 n i j) (crossed t)
   not_crossed i j x y zero h none = tt
   not_crossed i j x y (suc t) h none = (
     λ e.

@@ -1,7 +1,7 @@
 -- How many marks leave the ring when x is added, and come back when x is dropped: those strictly inside the run of arcs that x sees.
 use Rattle.std.proofs.Common.{◌≡◌, ℕ, zero, suc, ◌+◌, ◌<◌, ◌≤◌, Bool, T, ◌≢◌, ◌⊎◌, ◌↔◌, List, [], ◌∷◌, ◌++◌, length, sym, refl, ap, subst, subst₂, inl, inr, append_assoc, zero-add, arith, length-append}
 use mathlib.Core.Logic.Iff
-use Rattle.std.specs.List.{AllByRecursion as All}
+use Rattle.std.specs.List.{AllByRecursion}
 use Rattle.std.proofs.ByRecursion.{All-weaker, All-from_get_or}
 use Rattle.laws.specs.Systems.{Meaning, Lawful}
 use Rattle.laws.specs.Outlines.{Marks, adding, Apart, Outline, none as nothing, one as single, more as many, Turned, Grown}
@@ -41,14 +41,14 @@ turned_back k l (a, b, e, d) = (b, a, d, e)
 pub turned_length : (k l : List ℕ) → Turned k l → length l ≡ length k
 turned_length k l (a, b, e, d) = omega (arith, ap length e, ap length d, length-append a b, length-append b a)
 
-all_on : (l : List ℕ) → All (On l) l
+all_on : (l : List ℕ) → AllByRecursion (On l) l
 all_on l = All-from_get_or (On l) l 0 (λ i lt. (i, lt, refl))
 
-lacking_all : (l k : List ℕ) → All (λ c. On l c → ⊥) k → Lacking l k (length k)
+lacking_all : (l k : List ℕ) → AllByRecursion (λ c. On l c → ⊥) k → Lacking l k (length k)
 lacking_all l [] h = none
 lacking_all l (a ∷ k) h = gone h.0 (lacking_all l k h.1)
 
-lacking_none : (l k : List ℕ) → All (On l) k → Lacking l k 0
+lacking_none : (l k : List ℕ) → AllByRecursion (On l) k → Lacking l k 0
 lacking_none l [] h = none
 lacking_none l (a ∷ k) h = there h.0 (lacking_none l k h.1)
 
@@ -73,11 +73,11 @@ lacking_turned l k k' n (a, b, e, d) h =
     let (i, j, p, q, s) = lacking_cut a b (subst (λ y. Lacking l y n) e h) in
     subst₂ (Lacking l) (sym d) (omega arith) (lacking_join q p)
 
-apart_from : (k l : List ℕ) → Apart (k ++ l) → All (λ c. On k c → ⊥) l
+apart_from : (k l : List ℕ) → Apart (k ++ l) → AllByRecursion (λ c. On k c → ⊥) l
 apart_from [] l h = All-weaker (λ c. On l c) (λ c. On [] c → ⊥) (λ c _ o. let i = o.1 in omega arith) l (all_on l)
 apart_from (a ∷ k) l h = both l (all_cut _ k l h.0).1 (apart_from k l h.1)
   where
-    both : (l : List ℕ) → All (λ c. c ≢ a) l → All (λ c. On k c → ⊥) l → All (λ c. On (a ∷ k) c → ⊥) l
+    both : (l : List ℕ) → AllByRecursion (λ c. c ≢ a) l → AllByRecursion (λ c. On k c → ⊥) l → AllByRecursion (λ c. On (a ∷ k) c → ⊥) l
     both [] i j = tt
     both (c ∷ l) i j = (λ o. elim (on_cases (a ∷ []) k c o) [ inl (zero, _, e) ↦ i.0 (sym e) | inl (suc n, lt, e) ↦ omega arith | inr o' ↦ j.0 o' ], both l i.1 j.1)
 
@@ -103,7 +103,7 @@ module _ {m : Meaning} (L : Lawful m) {s : ℕ → Type 0} (marks : Marks m s) {
       (lacking_none (kept ++ x ∷ []) kept (All-weaker _ _ (λ c i. on_left kept (x ∷ []) c i) kept (all_on kept)))
       (lacking_all (kept ++ x ∷ []) g.gone (off_new kept g.gone off ins))))))
     where
-      off_new : (k l : List ℕ) → All (λ c. On k c → ⊥) l → All s l → All (λ c. On (k ++ x ∷ []) c → ⊥) l
+      off_new : (k l : List ℕ) → AllByRecursion (λ c. On k c → ⊥) l → AllByRecursion s l → AllByRecursion (λ c. On (k ++ x ∷ []) c → ⊥) l
       off_new k [] h i = tt
       off_new k (c ∷ l) h i = (
         λ o. elim (on_cases k (x ∷ []) c o) [
@@ -170,7 +170,7 @@ small_on {m} L {s} {l} y z p f o h =
       | inr k ↦ absurd (go l (three_or_more L o h (off_all l p k)) (outline_apart o) (outline_in o))
     ]
   where
-    go : (l : List ℕ) → 3 ≤ length l → Apart l → All s l → ⊥
+    go : (l : List ℕ) → 3 ≤ length l → Apart l → AllByRecursion s l → ⊥
     go [] i d k = omega arith
     go (a ∷ []) i d k = omega arith
     go (a ∷ b ∷ []) i d k = omega arith

@@ -1,7 +1,7 @@
 -- The worked sections.
 use Rattle.std.proofs.Common.{◌≡◌, ℕ, ◌<◌, ◌≤◌, Bool, true, false, not, ◌&&◌, T, eqb, ltb, leb, ◌≢◌, List, [], ◌∷◌, length, get_or, nat_abs, sym, refl, subst, inl, inr, arith, lit<, lit≤, eqb→eq, ltb→lt, leb→le, T_not}
 use lib.Dec.{eqb_refl}
-use Rattle.std.specs.List.{AllByRecursion as All}
+use Rattle.std.specs.List.{AllByRecursion}
 use Rattle.laws.specs.Systems.{Meaning, Left, Lawful}
 use Rattle.laws.specs.Outlines.{Marks, Arc, Outline, more}
 use Rattle.laws.specs.First.{FirstPair, FirstTriple}
