@@ -1,5 +1,5 @@
 -- What a hull answers while all marks of its system are put in, and once they are in.
-use Rattle.std.proofs.Common.{◌≡◌, ℕ, ◌+◌, ◌<◌, ◌≤◌, Bool, true, false, T, ltb, List, [], ◌∷◌, ◌++◌, length, take, Ok, Err, Result, sym, refl, ap, ◌∙◌, subst, subst₂, arith, ltb→lt, MatchResult}
+use Rattle.std.proofs.Common.{◌≡◌, ℕ, ◌+◌, ◌<◌, ◌≤◌, Bool, true, false, T, ltb, List, [], length, take, Ok, Err, Result, sym, refl, ap, ◌∙◌, subst, subst₂, arith, ltb→lt, MatchResult}
 use mathlib.Core.Path.{fun_ext}
 use Rattle.std.proofs.lemmas.List.{take_at}
 use Rattle.cc.specs.declared.faults.Fault.{Fault}
@@ -9,11 +9,11 @@ use Rattle.laws.specs.Theorems.{of}
 use Rattle.std.proofs.ByRecursion.{All-weaker}
 use Rattle.laws.proofs.Counts.{few}
 use Rattle.laws.proofs.Uniqueness.{outline_apart}
-use Rattle.runs.specs.Calls.{RingOf, Rounds, OneMore, Asks, NeedsIn, Answers, Call, add, outline, rounds, declined, wrote, to_add, stranger, already_in, absent, reads, counts, tight_ring, tight_rounds}
+use Rattle.runs.specs.Calls.{RingOf, Rounds, OneMore, Asks, NeedsIn, Answers, add, outline, rounds, declined, wrote, to_add, stranger, already_in, absent, reads, counts, tight_ring, tight_rounds}
 use Rattle.runs.proofs.Decided.{more_same, test_same}
 use Rattle.runs.proofs.Standing.{outline_in}
 use Rattle.hull.specs.declared.answers.Added.{Added}
-use Rattle.hull.specs.Replies.{added_answer, list_answer}
+use Rattle.hull.specs.Replies.{added_answer}
 use Rattle.hull.proofs.Below.{below_more}
 use Rattle.reports.specs.Layers.{first, Layered}
 

@@ -1,5 +1,5 @@
 -- From what a text is read as to its report.
-use Rattle.std.proofs.Common.{◌≡◌, ℕ, ◌-◌, ◌*◌, ◌/◌, ◌<◌, ◌≤◌, List, [], ◌++◌, length, take, codes, sym, ap, ◌∙◌, subst, arith}
+use Rattle.std.proofs.Common.{◌≡◌, ℕ, ◌-◌, ◌≤◌, List, [], ◌++◌, length, take, codes, sym, ap, ◌∙◌, subst, arith}
 use Rattle.std.proofs.lemmas.List.{take_at}
 use Rattle.cc.specs.declared.faults.Fault.{Fault}
 use Rattle.sheet.specs.Sheets.{Declines, Holds, Lists, Reads, Value, due, limit, list, unopened, stopped, tight}

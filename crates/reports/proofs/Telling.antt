@@ -1,15 +1,14 @@
 -- The reports of opened systems, put together from what was written.
-use Rattle.std.proofs.Common.{◌≡◌, ℕ, zero, suc, ◌<◌, ◌≤◌, List, [], ◌∷◌, ◌++◌, length, Some, None, Err, codes, Option, sym, refl, ap, ◌∙◌, subst, append-nil, arith, ltb→lt}
+use Rattle.std.proofs.Common.{◌≡◌, ℕ, zero, suc, ◌<◌, ◌≤◌, List, [], ◌∷◌, ◌++◌, length, Some, None, codes, sym, refl, ap, ◌∙◌, subst, append-nil, arith, ltb→lt}
 use Rattle.cc.specs.declared.faults.Fault.{Fault}
 use Rattle.laws.specs.Systems.{Meaning, Lawful}
 use Rattle.models.specs.declared.places.Place.{Place}
-use Rattle.models.specs.Places.{Good, plane}
-use Rattle.models.proofs.Plane.{lawful_plane}
+use Rattle.models.specs.Places.{plane}
 use Rattle.runs.specs.Calls.{RingOf}
 use Rattle.runs.proofs.Standing.{ring_in}
 use Rattle.systems.specs.Openings.{StarRefused}
 use Rattle.sections.specs.Delaunay.{StarPairs, StarDeclined, pair, refused, tight}
-use Rattle.sections.specs.Tapes.{TapeAnswer, TapeRefused}
+use Rattle.sections.specs.Tapes.{TapeRefused}
 use Rattle.sheet.specs.Sheets.{Value}
 use Rattle.sheet.specs.Shapes.{letter}
 use Rattle.sheet.specs.declared.Kind.{Kind}

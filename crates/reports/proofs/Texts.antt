@@ -1,5 +1,5 @@
 -- Texts that are written part by part.
-use Rattle.std.proofs.Common.{◌≡◌, ℕ, suc, ◌+◌, List, [], ◌∷◌, ◌++◌, take, sym, refl, ap, ◌∙◌, append_assoc, add-one}
+use Rattle.std.proofs.Common.{◌≡◌, ℕ, ◌+◌, List, [], ◌++◌, take, sym, ap, ◌∙◌, append_assoc, add-one}
 use native.Mathlib.Nat.{sub-zero}
 use Rattle.std.specs.List.{between}
 use Rattle.reports.specs.Lines.{each}

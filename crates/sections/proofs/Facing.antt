@@ -1,13 +1,12 @@
 -- The pairs of a star are the arcs of the star system that face its centre.
-use Rattle.std.proofs.Common.{◌≡◌, ℕ, ◌+◌, ◌-◌, ◌<◌, ◌≤◌, ◌≢◌, ◌⊎◌, List, length, sym, refl, ap, ◌∙◌, subst, inl, inr, arith}
+use Rattle.std.proofs.Common.{◌≡◌, ℕ, ◌-◌, ◌<◌, ◌≢◌, List, length, sym, refl, ap, ◌∙◌, subst, arith}
 use native.Mathlib.Decide.{dec_lt}
-use Rattle.laws.specs.Systems.{Meaning, Three, Left, Lawful}
+use Rattle.laws.specs.Systems.{Left, Lawful}
 use Rattle.laws.specs.Outlines.{Arc}
 use Rattle.laws.proofs.Arcs.{one_after}
 use Rattle.models.specs.declared.places.Place.{Place}
-use Rattle.models.specs.Determinants.{Positive, det}
-use Rattle.models.specs.Places.{place, plane, Good, cross}
-use Rattle.models.specs.Stars.{star, other, seen, Clear}
+use Rattle.models.specs.Places.{place, plane, Good}
+use Rattle.models.specs.Stars.{star, other, Clear}
 use Rattle.models.specs.Circles.{Outside}
 use Rattle.models.proofs.StarLaws.{Other, under, past, other_is, other_apart, other_within, other_rises, stars_keep_the_laws}
 use Rattle.models.proofs.Circles.{outside_by_determinant}

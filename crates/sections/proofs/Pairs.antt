@@ -1,11 +1,11 @@
 -- The list of a star's pairs, as it grows.
-use Rattle.std.proofs.Common.{◌≡◌, ℕ, ◌+◌, ◌-◌, ◌<◌, ◌≤◌, ◌≢◌, ◌⊎◌, List, [], ◌∷◌, ◌++◌, length, get_or, take, drop, set, sym, refl, ap, ◌∙◌, subst, inl, inr, arith}
+use Rattle.std.proofs.Common.{◌≡◌, ℕ, ◌+◌, ◌-◌, ◌<◌, ◌≤◌, ◌≢◌, ◌⊎◌, List, [], ◌∷◌, ◌++◌, length, take, drop, set, sym, refl, ap, ◌∙◌, subst, inl, inr, arith}
 use native.Mathlib.Decide.{dec_lt}
 use native.Mathlib.Nat.{sub-zero}
 use Rattle.std.proofs.lemmas.List.{get_or_append_left, get_or_push, length_push, length-take-le, take_more_set, take_at, drop_at}
 use Rattle.models.specs.declared.places.Place.{Place}
 use Rattle.models.specs.Stars.{other}
-use Rattle.models.proofs.StarLaws.{Other, under, past, other_is, other_apart}
+use Rattle.models.proofs.StarLaws.{Other, under, past, other_is}
 use Rattle.systems.specs.Openings.{Starred}
 use Rattle.sections.specs.Delaunay.{Delaunay, pair, StarPairs, StarWritten}
 

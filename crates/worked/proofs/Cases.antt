@@ -1,10 +1,8 @@
 -- The worked sections.
-use Rattle.std.proofs.Common.{◌≡◌, ℕ, ◌<◌, ◌≤◌, Bool, true, false, not, ◌&&◌, T, eqb, ltb, leb, ◌≢◌, List, [], ◌∷◌, length, get_or, nat_abs, sym, refl, subst, inl, inr, arith, lit<, lit≤, eqb→eq, ltb→lt, leb→le, T_not}
+use Rattle.std.proofs.Common.{ℕ, ◌<◌, Bool, true, false, not, ◌&&◌, T, eqb, ltb, leb, ◌≢◌, List, [], ◌∷◌, length, nat_abs, refl, subst, inl, inr, arith, lit<, lit≤, eqb→eq, ltb→lt, leb→le}
 use lib.Dec.{eqb_refl}
-use Rattle.std.specs.List.{AllByRecursion}
-use Rattle.laws.specs.Systems.{Meaning, Left, Lawful}
-use Rattle.laws.specs.Outlines.{Marks, Arc, Outline, more}
-use Rattle.laws.specs.First.{FirstPair, FirstTriple}
+use Rattle.laws.specs.Systems.{Left, Lawful}
+use Rattle.laws.specs.Outlines.{Marks, Arc, more}
 use Rattle.laws.specs.Theorems.{of}
 use Rattle.laws.proofs.Names.{both, and}
 use Rattle.laws.proofs.Walks.{end, on}
@@ -21,7 +19,7 @@ use Rattle.models.proofs.Catalogued.{fours}
 use Rattle.systems.proofs.Refusing.{three_wires}
 use Rattle.cc.specs.declared.faults.Fault.TheVariants.{Twin, Straight, Circled}
 use Rattle.systems.specs.Openings.{Refused, StarRefused}
-use Rattle.runs.specs.Calls.{add, drop, place, edge, added, dropped, within, On, RingOf, OneMore, Lacking, none, there, gone, Fan, fan, Answers, adds, drops, lies}
+use Rattle.runs.specs.Calls.{edge, On, RingOf, OneMore, Lacking, none, there, gone, Fan, fan, adds, drops, lies}
 use Rattle.runs.proofs.Decided.{test_same}
 use Rattle.runs.proofs.Standing.{on_all}
 use Rattle.models.specs.Catalogue.{Catalogued}

@@ -1,7 +1,6 @@
 -- Rings of small sections, by tests that are computed.
-use Rattle.std.proofs.Common.{◌≡◌, ℕ, ◌<◌, ◌≤◌, Bool, true, false, not, ◌&&◌, ◌||◌, T, eqb, ltb, ◌≢◌, List, [], ◌∷◌, length, ℤ, pos, nat_abs, sym, refl, ap, subst, arith, eqb→eq, ltb→lt, T_not, lt-ltb, ne_eqb}
-use lib.Dec.{eqb_refl}
-use Rattle.laws.specs.Systems.{Meaning, Left, Lawful}
+use Rattle.std.proofs.Common.{◌≡◌, ℕ, Bool, true, false, not, ◌||◌, T, eqb, ltb, ◌≢◌, ℤ, pos, nat_abs, sym, subst, eqb→eq, T_not, lt-ltb}
+use Rattle.laws.specs.Systems.{Meaning}
 use Rattle.laws.specs.Outlines.{Marks, Arc}
 use Rattle.laws.specs.First.{NeverTriple, NeverPair}
 use Rattle.laws.specs.Theorems.{of}

@@ -73,5 +73,5 @@ pub returns-in-Err : goal.returns-in-Err
 returns-in-Err c =
     record {
       report = refused_text c.args.text.now _ c.in-Err.fault (string_bytes c.new-out.result) (string_bytes c.write_fault.new.out) (record { places = refl; crossings = refl; turns = refl })
-          c.in-Err.ensures.answers.0 c.new-out.ensures.bytes c.in_ok-write_fault.ensures.written;
+          c.in-Err.ensures.answers.0 c.new-out.ensures.bytes c.in_ok-write_fault-in-Err.ensures.written;
     }

@@ -1,6 +1,6 @@
-use Rattle.std.proofs.Common.{◌≡◌, ◌<◌, sym, ap, ◌∙◌, subst, arith}
+use Rattle.std.proofs.Common.{◌≡◌, ◌<◌, sym, ap, ◌∙◌, subst}
 use Rattle.hull.specs.Records.{held}
-use Rattle.reports.proofs.Adding.{none_first, add_more}
+use Rattle.reports.proofs.Adding.{add_more}
 use Rattle.reports.proofs.layering.add_all.Goals as goal
 
 pub loop-m-preserved : goal.loop-m-preserved

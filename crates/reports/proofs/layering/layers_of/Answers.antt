@@ -1,5 +1,4 @@
-use Rattle.std.proofs.Common.{◌≡◌, ◌≤◌, sym, refl, ap, ◌∙◌, arith}
-use Rattle.laws.specs.Systems.{Lawful}
+use Rattle.std.proofs.Common.{◌≡◌, sym, refl, ap, ◌∙◌, arith}
 use Rattle.hull.specs.Records.{held}
 use Rattle.reports.proofs.Adding.{all_marks, layered_by, ring_fits, ring_read, rounds_fit}
 use Rattle.reports.proofs.layering.layers_of.Goals as goal
@@ -22,7 +21,7 @@ invariant_of-result g c =
     let hull = c.add_all.new.hull in
     let small = (g.S.CcSystem.lawful c.args.system).limit in
     let len = (ring_read (g.S.CcSystem.meaning hull.system) (held hull.state.records) _ c.outline.new.list c.in-Ok.len c.in-Ok.ensures.answer).1 in
-    (c.outline.auto.list, (c.rounds.auto.list, (len, (omega (arith, small, c.count-count.ensures.marks), tt))))
+    record { ring_long = c.outline.auto.list; rounds_long = c.rounds.auto.list; few = len; limit = omega (arith, small, c.count-count.ensures.marks) }
 
 pub returns : goal.returns
 returns g c =

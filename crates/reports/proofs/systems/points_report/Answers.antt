@@ -1,4 +1,4 @@
-use Rattle.std.proofs.Common.{◌≡◌, [], ◌∷◌, ◌++◌, length, None, string_bytes, sym, refl, ap, ◌∙◌, subst}
+use Rattle.std.proofs.Common.{◌≡◌, ◌++◌, length, None, string_bytes, sym, ap, ◌∙◌, subst}
 use Rattle.models.specs.Places.{plane}
 use Rattle.runs.specs.Calls.{RingOf}
 use Rattle.systems.specs.Openings.{Judged, held}

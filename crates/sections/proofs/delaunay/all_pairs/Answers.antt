@@ -1,4 +1,4 @@
-use Rattle.std.proofs.Common.{◌≡◌, ◌+◌, ◌<◌, length, take, set, sym, ap, ◌∙◌, subst, arith}
+use Rattle.std.proofs.Common.{◌+◌, ◌<◌, length, take, sym, ap, ◌∙◌, subst, arith}
 use Rattle.models.specs.Stars.{other}
 use Rattle.models.proofs.Plane.{good}
 use Rattle.sections.specs.Delaunay.{Delaunay}

@@ -5,7 +5,7 @@ use Rattle.models.specs.declared.places.Place.{Place}
 use Rattle.models.specs.Places.{plane}
 use Rattle.models.specs.Stars.{star, other}
 use Rattle.models.proofs.Plane.{good}
-use Rattle.sections.specs.Delaunay.{Delaunay, AllOf}
+use Rattle.sections.specs.Delaunay.{AllOf}
 use Rattle.sections.proofs.Facing.{delaunay, no_pair, the_pair}
 use Rattle.sections.proofs.delaunay.facing_pair.Goals as goal
 
