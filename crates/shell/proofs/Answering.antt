@@ -1,14 +1,14 @@
 -- Answers that are added to the text, line by line. Assumes nothing.
-use Rattle.std.proofs.Common.{◌≡◌, ℕ, ◌+◌, ◌-◌, ◌<◌, ◌≤◌, min, Bool, cond, ◌≢◌, List, [], ◌∷◌, ◌++◌, length, take, drop, replicate, is_ok, IfOk, Ok, Err, Result, sym, refl, ap, ◌∙◌, subst, append_assoc, append-nil, arith, length-append, length-drop, length-take}
+use Rattle.std.proofs.Common.{◌≡◌, ℕ, ◌+◌, ◌-◌, ◌<◌, min, Bool, cond, ◌≢◌, List, [], ◌∷◌, ◌++◌, length, take, drop, replicate, is_ok, IfOk, Ok, Err, Result, sym, refl, ap, ◌∙◌, subst, append_assoc, append-nil, arith, length-append, length-drop, length-take}
 use Rattle.std.proofs.lemmas.List.{nil_from_length}
 use Rattle.laws.specs.Systems.{Meaning}
-use Rattle.runs.specs.Calls.{Answer, Answers, outline}
+use Rattle.runs.specs.Calls.{Answer, Answers}
 use Rattle.runs.specs.Calls.{Call as TheCall}
-use Rattle.hull.specs.Histories.{Called, Moved}
+use Rattle.hull.specs.Histories.{Moved}
 use Rattle.hull.proofs.Recording.{made_so}
 use Rattle.shell.specs.Commands.{name}
 use Rattle.shell.specs.Texts.{shown, tabbed}
-use Rattle.shell.specs.Dialogues.{Answered, CalledLine, Begins, ended, last, Dialogue, end, more, Exchange, call_of, handed}
+use Rattle.shell.specs.Dialogues.{Answered, CalledLine, Begins, ended, last, Dialogue, more, Exchange, call_of, handed}
 use Rattle.shell.specs.declared.commands.Verb.{Verb}
 use Rattle.shell.proofs.Growing.{then, zeros}
 

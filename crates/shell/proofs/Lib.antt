@@ -5,7 +5,3 @@ pub mod Layering
 pub mod Words
 pub mod Opening
 pub mod Talking
-pub mod Sameness
-pub mod OneWord
-pub mod OneTalk
-pub mod OneConsole

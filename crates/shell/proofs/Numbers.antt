@@ -1,5 +1,5 @@
 -- Digits that write a number of 64 bits, and the words of the calls. Assumes nothing.
-use Rattle.std.proofs.Common.{◌≡◌, ℕ, zero, suc, ◌+◌, ◌*◌, ◌<◌, ◌≤◌, Bool, true, false, not, T, eqb, ◌≢◌, List, [], ◌∷◌, ◌++◌, length, get_or, take, Some, None, codes, decimal, Decides, MatchBool, Option, sym, refl, ap, ◌∙◌, subst, arith, T_not, length-take-le, MatchOption}
+use Rattle.std.proofs.Common.{◌≡◌, ℕ, zero, suc, ◌+◌, ◌*◌, ◌<◌, ◌≤◌, Bool, true, false, not, T, eqb, ◌≢◌, List, [], ◌∷◌, ◌++◌, length, get_or, take, Some, codes, decimal, Decides, MatchBool, sym, refl, ap, ◌∙◌, subst, arith, T_not, length-take-le}
 use lib.Dec.{eqb_refl}
 use Rattle.laws.specs.Layers.{fresh}
 use Rattle.laws.proofs.Names.{both}
@@ -65,7 +65,7 @@ lacks_by b (x ∷ bs) t =
     lacks_cons b x bs (λ e. T_not (eqb b x) n (subst (λ z. T (eqb b z)) (sym e) (eqb_refl b))) (lacks_by b bs k)
 
 -- a space stands in no word
-pub word_lacks : (v : Verb) → Lacks 32 (name v)
+word_lacks : (v : Verb) → Lacks 32 (name v)
 word_lacks Add = lacks_by 32 (name Add) tt
 word_lacks Drop = lacks_by 32 (name Drop) tt
 word_lacks Place = lacks_by 32 (name Place) tt

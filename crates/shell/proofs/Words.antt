@@ -1,12 +1,11 @@
 -- The words that name layers. Assumes nothing.
-use Rattle.std.proofs.Common.{◌≡◌, ℕ, ◌<◌, ◌≢◌, List, [], ◌∷◌, ◌++◌, length, get_or, Some, None, codes, decimal, Option, sym, refl, ap, ◌∙◌, subst, append_assoc, append-nil, arith}
-use Rattle.std.specs.Str.Parse.{AllDigits}
+use Rattle.std.proofs.Common.{◌≡◌, ℕ, ◌<◌, ◌≢◌, List, [], ◌∷◌, ◌++◌, Some, None, codes, decimal, Option, sym, refl, ap, ◌∙◌, subst, append_assoc, append-nil, arith}
 use Rattle.std.proofs.lemmas.Str.Parse.{digit_at}
 use Rattle.laws.specs.Layers.{Layer, mirror, renaming}
 use Rattle.sheet.specs.Fields.{Lacks, Says}
 use Rattle.sheet.specs.Cuts.{cut_unique, lacks_not, not_nil}
 use Rattle.shell.specs.Commands.{Wide}
-use Rattle.shell.specs.Layered.{Narrow, SomeNames, Wides, commas, joined, layer_word}
+use Rattle.shell.specs.Layered.{Narrow, SomeNames, Wides, joined, layer_word}
 use Rattle.shell.proofs.Numbers.{lacks_by, wide_digits}
 
 -- digits hold no comma

@@ -3,4 +3,3 @@ pub mod Texts
 pub mod Dialogues
 pub mod Layered
 pub mod Consoles
-pub mod Theorems

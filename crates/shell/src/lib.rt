@@ -11,7 +11,6 @@ mod texts;
 ghost use Rattle.std.specs.Prelude.{length, IfOk, string_bytes};
 ghost use Rattle.sheet.specs.declared.Kind.TheVariants.{Points as points, Network as network, Table as table};
 ghost use Rattle.shell.specs.Consoles.{Console, Over};
-ghost use Rattle.shell.specs.Theorems.{OneConsole, OneDialogue, OneTalk};
 
 use cc::Turn;
 use layers::{refusal, with_words};
@@ -99,14 +98,4 @@ pub fn console(
             over_table(heap, n, &turns[0..triples], layers, script)
         }
     }
-}
-
-// The contract of `console` leaves one text for each sheet, words of layers and script; so do the words and the script
-// over any system, and the script alone.
-pub fn consoles_stand() -> u8
-    ensures dialogues { OneDialogue }
-    ensures talks { OneTalk }
-    ensures one { OneConsole }
-{
-    0
 }

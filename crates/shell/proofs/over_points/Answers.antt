@@ -1,4 +1,4 @@
-use Rattle.std.proofs.Common.{◌≡◌, length, string_bytes, sym, ap, ◌∙◌, subst}
+use Rattle.std.proofs.Common.{◌≡◌, length, string_bytes, sym, ap, ◌∙◌}
 use Rattle.models.specs.Places.{plane}
 use Rattle.systems.specs.Openings.{held}
 use Rattle.sheet.specs.declared.Kind.TheVariants.{Points}

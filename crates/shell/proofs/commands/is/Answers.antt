@@ -1,4 +1,4 @@
-use Rattle.std.proofs.Common.{◌≡◌, Decides, MatchBool, subst}
+use Rattle.std.proofs.Common.{◌≡◌, Decides, subst}
 use Rattle.std.proofs.lemmas.Slice.Eq.{slice_eq-Decides}
 use Rattle.shell.proofs.Numbers.{when_decided}
 use Rattle.shell.proofs.commands.is.Goals as goal

@@ -1,4 +1,4 @@
-use Rattle.std.proofs.Common.{◌≡◌, ◌<◌, ◌≤◌, length, get_or, ◌∙◌, arith, length-drop, length-take, ltb-false, ltb-true}
+use Rattle.std.proofs.Common.{◌≡◌, ◌<◌, length, get_or, ◌∙◌, arith, length-drop, length-take, ltb-false, ltb-true}
 use Rattle.shell.proofs.Numbers.{wide_some, wide_twenty, wide_zero, wide_digits, wide_value, says_value}
 use Rattle.shell.proofs.commands.number.Goals as goal
 

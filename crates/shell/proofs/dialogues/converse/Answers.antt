@@ -1,4 +1,4 @@
-use Rattle.std.proofs.Common.{◌≡◌, ℕ, Bool, false, List, [], ◌++◌, string_bytes, sym, refl, ap, ◌∙◌, subst, arith}
+use Rattle.std.proofs.Common.{ℕ, Bool, false, [], ◌++◌, string_bytes, sym, refl, ap, ◌∙◌, subst, arith}
 use Rattle.laws.specs.Systems.{Meaning}
 use Rattle.hull.specs.Records.{held}
 use Rattle.shell.specs.Dialogues.{Dialogue, Exchange, end}

@@ -1,7 +1,6 @@
-use Rattle.std.proofs.Common.{length, vec_items, sym, ap, ◌∙◌, subst, eqb-true}
-use borrow.Author.Tests.{eqb-false}
+use Rattle.std.proofs.Common.{vec_items, sym, ◌∙◌, eqb-true}
 use Rattle.std.proofs.lemmas.List.{nil_from_length}
-use Rattle.shell.proofs.Words.{no_colon, no_rename, no_names, rename_nothing, renames}
+use Rattle.shell.proofs.Words.{no_colon, no_rename, rename_nothing}
 use Rattle.shell.proofs.layers.layer_of.Goals as goal
 
 pub returns-in_default : goal.returns-in_default

@@ -1,4 +1,4 @@
-use Rattle.std.proofs.Common.{[], ◌∷◌, ◌++◌, Some, None, vec_items, sym, ap, ◌∙◌, subst}
+use Rattle.std.proofs.Common.{[], ◌∷◌, Some, None, vec_items, sym, ap, ◌∙◌, subst}
 use Rattle.sheet.specs.Fields.{Says}
 use Rattle.shell.specs.Layered.{SomeNames, joined}
 use Rattle.shell.proofs.Layering.{after_shorter}

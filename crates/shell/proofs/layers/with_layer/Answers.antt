@@ -1,4 +1,4 @@
-use Rattle.std.proofs.Common.{[], ◌∷◌, take, vec_items, string_bytes, sym, ap, ◌∙◌}
+use Rattle.std.proofs.Common.{[], take, vec_items, string_bytes, sym, ap, ◌∙◌}
 use Rattle.laws.specs.Layers.{mirrored, renamed}
 use Rattle.hull.proofs.Recording.{made_so}
 use Rattle.shell.specs.Layered.{layer_of, bare}

@@ -1,7 +1,7 @@
 use Rattle.std.proofs.Common.{[], ◌∷◌, take, vec_items, string_bytes, sym, ap, ◌∙◌}
 use Rattle.laws.specs.Layers.{mirrored, renamed}
 use Rattle.hull.proofs.Recording.{made_so}
-use Rattle.shell.specs.Layered.{layer_of, bare}
+use Rattle.shell.specs.Layered.{layer_of}
 use Rattle.shell.proofs.Layering.{mirror_layered, misnamed_layered, renaming_layered}
 use Rattle.shell.proofs.layers.with_layers.Goals as goal
 

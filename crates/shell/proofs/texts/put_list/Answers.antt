@@ -1,4 +1,3 @@
-use native.Mathlib.Nat.{sub-zero}
 use Rattle.std.proofs.Common.{string_bytes}
 use Rattle.hull.proofs.Recording.{made_so}
 use Rattle.shell.proofs.Growing.{first_of, listed}

@@ -1,4 +1,4 @@
-use Rattle.std.proofs.Common.{◌++◌, string_bytes, sym, ap, ◌∙◌, take_all}
+use Rattle.std.proofs.Common.{◌++◌, string_bytes, ap, ◌∙◌, take_all}
 use Rattle.shell.specs.Texts.{tabbed}
 use Rattle.shell.proofs.Growing.{tabbed_more}
 use Rattle.shell.proofs.texts.put_numbers.Goals as goal
