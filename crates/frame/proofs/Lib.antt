@@ -1,3 +1,4 @@
 pub mod Counting
 pub mod Opening
+pub mod Sameness
 pub mod OneTally

@@ -1,5 +1,5 @@
 -- A text and calls have one sum.
-use Rattle.std.proofs.Common.{◌≡◌, ℕ, ◌+◌, Bool, cond, eqb, List, Some, None, sym, refl, ap, ◌∙◌, subst}
+use Rattle.std.proofs.Common.{◌≡◌, ℕ, ◌+◌, Bool, cond, eqb, List, sym, refl, ap, ◌∙◌, subst}
 use Rattle.laws.specs.Systems.{Lawful, Meaning}
 use Rattle.laws.specs.Outlines.{Marks}
 use Rattle.laws.specs.Theorems.{of}
@@ -11,7 +11,7 @@ use Rattle.reports.proofs.OneReport.{accepted_lawful, not_judged}
 use Rattle.shell.specs.Dialogues.{call_of}
 use Rattle.shell.specs.declared.commands.Verb.{Verb}
 use Rattle.shell.specs.declared.commands.Verb.TheVariants.{Add, Drop, Place, Neighbours, Outline, Rounds}
-use Rattle.shell.proofs.Sameness.{called_marks, called_same, same_self}
+use Rattle.frame.proofs.Sameness.{called_marks, called_same, same_self}
 use Rattle.frame.specs.Tallies.{Counted, OneTally, Tallied, Total, Totals, again, call, end, letter, never, no_call, odd, total, worth, wrapped}
 use Rattle.frame.specs.Tallies as tally
 

@@ -1,7 +1,7 @@
 use Rattle.std.proofs.Common.{◌-◌, ◌<◌, ◌≤◌, ◌∷◌, length, get_or, take, drop, sym, refl, ap, ◌∙◌, subst, arith, ltb-false, ltb-true}
 use Rattle.laws.specs.Systems.{Meaning}
 use Rattle.hull.specs.Records.{held}
-use Rattle.frame.specs.Tallies.{Total, Valued}
+use Rattle.frame.specs.Tallies.{Valued}
 use Rattle.frame.proofs.Counting.{paired, pair_shorter, unused, passed_over, one_more_call, all_calls}
 use Rattle.frame.proofs.tallies.tally_once.Goals as goal
 

@@ -3,4 +3,4 @@ use Rattle.frame.specs.Tallies.{Totals}
 use Rattle.frame.proofs.tallies.tally_over.Given as goal
 
 abbrev pub invariant-loop-time : goal.invariant-loop-time
-invariant-loop-time g l = (l.below ≡ l.initial.below) × Totals (g.S.CcSystem.meaning l.initial.below) l.calls l.-time l.total
+invariant-loop-time g l = (l.below ≡ l.initial.below) × Totals (g.S.CcSystem.meaning l.initial.below) l.calls l._time l.total
