@@ -6,7 +6,7 @@
 mod layering;
 mod layers;
 mod lines;
-mod systems;
+mod opened;
 
 ghost use Rattle.std.specs.Prelude.{IfOk, string_bytes};
 ghost use Rattle.reports.specs.Reports.{Reports, OneReport};
@@ -14,9 +14,9 @@ ghost use Rattle.reports.specs.Reports.{Reports, OneReport};
 use cc::Turn;
 use lines::write_fault;
 use models::places::Place;
+use opened::{network_report, points_report, table_report};
 use sheet::{Kind, read};
 use std::alloc::{AllocError, Global};
-use systems::{network_report, points_report, table_report};
 
 // The report of a text; the error is want of memory.
 pub fn report(heap: Global, text: &[u8]) -> Result<String, AllocError>

@@ -2,7 +2,7 @@ use Rattle.models.proofs.Plane.{lawful_plane}
 use Rattle.reports.specs.Lines.{tape_line}
 use Rattle.reports.specs.Reports.{tape}
 use Rattle.reports.proofs.Telling.{tape_fits}
-use Rattle.reports.proofs.systems.write_tape.Goals as goal
+use Rattle.reports.proofs.opened.write_tape.Goals as goal
 
 pub unreachable-requires : goal.unreachable-requires
 unreachable-requires c =

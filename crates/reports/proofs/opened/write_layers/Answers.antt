@@ -3,7 +3,7 @@ use Rattle.std.specs.List.{between}
 use Rattle.reports.specs.Lines.{line, ring_line, round_lines}
 use Rattle.reports.specs.Layers.{ring_in, rounds_in}
 use Rattle.reports.proofs.Texts.{front_part, two_writes, written_parts}
-use Rattle.reports.proofs.systems.write_layers.Goals as goal
+use Rattle.reports.proofs.opened.write_layers.Goals as goal
 
 pub returns : goal.returns
 returns g c =

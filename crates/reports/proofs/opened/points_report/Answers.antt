@@ -7,7 +7,7 @@ use Rattle.reports.specs.Layers.{first, ring_in, rounds_in}
 use Rattle.reports.specs.Reports.{Told, TapeTold, of_points}
 use Rattle.reports.proofs.Texts.{front_part, from_empty, two_writes}
 use Rattle.reports.proofs.Telling.{refused_by, told_by}
-use Rattle.reports.proofs.systems.points_report.Goals as goal
+use Rattle.reports.proofs.opened.points_report.Goals as goal
 
 pub returns-in-Some : goal.returns-in-Some
 returns-in-Some c =

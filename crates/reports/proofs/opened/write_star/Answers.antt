@@ -4,7 +4,7 @@ use Rattle.reports.specs.Lines.{fault_line, pair_lines}
 use Rattle.reports.specs.Reports.{no_centre, pairs, refused}
 use Rattle.reports.proofs.Texts.{front_part}
 use Rattle.reports.proofs.Telling.{star_fits}
-use Rattle.reports.proofs.systems.write_star.Goals as goal
+use Rattle.reports.proofs.opened.write_star.Goals as goal
 
 pub returns-then-count-eq0 : goal.returns-then-count-eq0
 returns-then-count-eq0 c = record { told = ([], no_centre (omega (arith, c.count.ensures.marks, c.if-count-eq0.true)), sym (append-nil _)) }

@@ -6,7 +6,7 @@ use Rattle.sheet.specs.declared.Kind.TheVariants.{Network}
 use Rattle.reports.specs.Layers.{ring_in, rounds_in}
 use Rattle.reports.specs.Reports.{of_network}
 use Rattle.reports.proofs.Telling.{refused_by, told_plainly}
-use Rattle.reports.proofs.systems.network_report.Goals as goal
+use Rattle.reports.proofs.opened.network_report.Goals as goal
 
 pub returns-in-Some : goal.returns-in-Some
 returns-in-Some c =
