@@ -186,14 +186,10 @@ pub fn damaged(random: &mut Random) -> Vec<u8> {
     text
 }
 
-/// The words of a star, over places, and of at most two layers, for a system of so many marks; and the count of the whole pile.
+/// The words of at most two layers, for a system of so many marks; and the count of the whole pile.
 /// Now and then a word names nothing.
-pub fn words(random: &mut Random, places: bool, mut count: usize) -> (String, usize) {
+pub fn words(random: &mut Random, mut count: usize) -> (String, usize) {
     let mut all = Vec::new();
-    if places && random.one_in(3) {
-        all.push(format!("star:{}", random.below(count + 1)));
-        count = count.saturating_sub(1);
-    }
     for _ in 0..random.below(3) {
         if random.one_in(2) {
             all.push("mirror".to_string());

@@ -49,28 +49,26 @@ fn compare_sheets(sheets: u64, seed: u64) {
 /// How many histories there were of each system, and what came of their calls.
 #[derive(Default)]
 struct Histories {
-    systems: [usize; 4],
+    systems: [usize; 3],
     layers: [usize; 3],
     calls: usize,
     declined: usize,
 }
 
-/// Histories as scripts of the console: all systems, under stars and layers.
+/// Histories as scripts of the console: over points, networks and tables, under layers.
 fn compare_histories(histories: u64, seed: u64) {
     let mut seen = Histories::default();
     for case in seed..seed + histories {
         let mut random = Random::new(case ^ 0xA5A5_0000_0000);
         let text = cases::sheet(&mut random);
         let sheet = plain::read(&text).expect("a sheet that keeps its form");
-        let places = matches!(sheet, Sheet::Places(_));
         let count = plain::open(&sheet).map_or(0, |system| system.count);
-        let (words, count) = cases::words(&mut random, places, count);
+        let (words, count) = cases::words(&mut random, count);
         let script = cases::script(&mut random, count, if count > 40 { 60 } else { 200 });
         let wanted = texts::console(&text, &words, &script);
         let got = library::console(&text, words.as_bytes(), script.as_bytes(), room(&mut random));
         same("a history", case, &[&text[..], words.as_bytes(), b"\n", script.as_bytes()].concat(), &got, wanted.as_bytes());
         let kind = match sheet {
-            Sheet::Places(_) if words.starts_with("star:") => 3,
             Sheet::Places(_) => 0,
             Sheet::Crossings(..) => 1,
             Sheet::Turns(..) => 2,
@@ -81,7 +79,7 @@ fn compare_histories(histories: u64, seed: u64) {
         seen.declined += wanted.lines().filter(|line| line.contains("\tno\t")).count();
     }
     println!("{histories} histories of {} calls, {} of them declined", seen.calls, seen.declined);
-    println!("over points {}, networks {}, tables {}, stars {}", seen.systems[0], seen.systems[1], seen.systems[2], seen.systems[3]);
+    println!("over points {}, networks {}, tables {}", seen.systems[0], seen.systems[1], seen.systems[2]);
     println!("under no layer {}, one {}, two {}", seen.layers[0], seen.layers[1], seen.layers[2]);
 }
 

@@ -56,7 +56,7 @@ fn number(word: &str) -> Option<usize> {
     (value.to_string() == word).then_some(value)
 }
 
-/// What the console prints for a sheet, the words of a star and of layers, and a script.
+/// What the console prints for a sheet, the words of layers, and a script.
 pub fn console(sheet: &[u8], words: &str, script: &str) -> String {
     match opened(sheet, words) {
         Ok(Some(system)) => dialogue(system, script),
@@ -78,21 +78,9 @@ impl From<Refusal> for Stop {
     }
 }
 
-/// The system that the calls are made on; none where the first word names no layer.
+/// The system that the calls are made on, under the layers that the words name, the first directly over the sheet's; none where the first word names no layer.
 fn opened(sheet: &[u8], words: &str) -> Result<Option<System>, Stop> {
-    let sheet = plain::read(sheet)?;
-    let system = plain::open(&sheet)?;
-    if let Sheet::Places(places) = &sheet {
-        let (first, rest) = words.split_once(' ').unwrap_or((words, ""));
-        if let Some(centre) = first.strip_prefix("star:").and_then(number) {
-            return under(plain::star_system(places, centre)?, rest);
-        }
-    }
-    under(system, words)
-}
-
-/// The system under the layers that the words name, the first directly over it.
-fn under(system: System, words: &str) -> Result<Option<System>, Stop> {
+    let system = plain::open(&plain::read(sheet)?)?;
     if words.is_empty() {
         return Ok(Some(system));
     }
