@@ -434,13 +434,6 @@ fn others(places: &[(i64, i64)], c: usize) -> Answer<Vec<usize>> {
     Ok(others)
 }
 
-/// The star about mark c as a system.
-pub fn star_system(places: &[(i64, i64)], c: usize) -> Answer<System> {
-    let others = others(places, c)?;
-    let at = |mark: usize| places[others[mark]];
-    Ok(System::of(others.len(), |p, q, r| circle(places[c], at(p), at(q), at(r)) > 0))
-}
-
 /// The Delaunay pairs about mark c.
 pub fn star(places: &[(i64, i64)], c: usize) -> Answer<Vec<(usize, usize)>> {
     let others = others(places, c)?;
