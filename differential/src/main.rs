@@ -1,6 +1,7 @@
 //! Compares the proved library, linked as a static library, with a plain implementation, answer by answer, and measures what calls cost:
 //!
 //!     differential compare SHEETS HISTORIES [SEED]
+//!     differential programs SHEETS HISTORIES [SEED]      the same through the programs `report` and `console`
 //!     differential measure
 
 mod cases;
@@ -8,6 +9,7 @@ mod library;
 mod matched;
 mod measuring;
 mod plain;
+mod programs;
 mod tallies;
 mod texts;
 
@@ -33,13 +35,13 @@ fn room(random: &mut Random) -> usize {
 }
 
 /// Reports of sheets, good and damaged.
-fn compare_sheets(sheets: u64, seed: u64) {
+fn compare_sheets(sheets: u64, seed: u64, report: impl Fn(&[u8], usize) -> Vec<u8>) {
     let mut told = 0;
     for case in seed..seed + sheets {
         let mut random = Random::new(case);
         let text = if random.one_in(2) { cases::sheet(&mut random) } else { cases::damaged(&mut random) };
         let wanted = texts::report(&text);
-        let got = library::report(&text, room(&mut random));
+        let got = report(&text, room(&mut random));
         same("a report", case, &text, &got, wanted.as_bytes());
         told += u64::from(wanted.starts_with("kind"));
     }
@@ -56,7 +58,8 @@ struct Histories {
 }
 
 /// Histories as scripts of the console: over points, networks and tables, under layers.
-fn compare_histories(histories: u64, seed: u64) {
+/// `given` is what arrives of the words.
+fn compare_histories(histories: u64, seed: u64, given: impl Fn(&str) -> &str, console: impl Fn(&[u8], &str, &[u8], usize) -> Vec<u8>) {
     let mut seen = Histories::default();
     for case in seed..seed + histories {
         let mut random = Random::new(case ^ 0xA5A5_0000_0000);
@@ -64,9 +67,10 @@ fn compare_histories(histories: u64, seed: u64) {
         let sheet = plain::read(&text).expect("a sheet that keeps its form");
         let count = plain::open(&sheet).map_or(0, |system| system.count);
         let (words, count) = cases::words(&mut random, count);
+        let words = given(&words);
         let script = cases::script(&mut random, count, if count > 40 { 60 } else { 200 });
-        let wanted = texts::console(&text, &words, &script);
-        let got = library::console(&text, words.as_bytes(), script.as_bytes(), room(&mut random));
+        let wanted = texts::console(&text, words, &script);
+        let got = console(&text, words, script.as_bytes(), room(&mut random));
         same("a history", case, &[&text[..], words.as_bytes(), b"\n", script.as_bytes()].concat(), &got, wanted.as_bytes());
         let kind = match sheet {
             Sheet::Places(_) => 0,
@@ -108,11 +112,16 @@ fn main() {
     match arguments.get(1).map(String::as_str) {
         Some("compare") => {
             let (sheets, histories, seed) = (number(2, 1_000), number(3, 1_000), number(4, 1));
-            compare_sheets(sheets, seed);
-            compare_histories(histories, seed);
+            compare_sheets(sheets, seed, library::report);
+            compare_histories(histories, seed, |words| words, |text, words, script, room| library::console(text, words.as_bytes(), script, room));
             compare_tallies(histories, seed);
         }
+        Some("programs") => {
+            let (sheets, histories, seed) = (number(2, 1_000), number(3, 1_000), number(4, 1));
+            compare_sheets(sheets, seed, |text, _| programs::report(text));
+            compare_histories(histories, seed, |words| words.trim_start_matches(' '), |text, words, script, _| programs::console(text, words, script));
+        }
         Some("measure") => measuring::measure(),
-        _ => println!("differential compare SHEETS HISTORIES [SEED] | differential measure"),
+        _ => println!("differential compare SHEETS HISTORIES [SEED] | differential programs SHEETS HISTORIES [SEED] | differential measure"),
     }
 }
