@@ -1,2 +1,3 @@
 mod Mirroring
 mod Naming
+pub mod Printing

@@ -1,11 +1,11 @@
 -- Renamings: what a judgement of the list says of the system, and what the system tells.
-use Rattle.std.proofs.Common.{◌≡◌, ℕ, ◌-◌, ◌<◌, ◌≤◌, T, List, [], ◌++◌, length, take, drop, Some, None, Option, sym, refl, ap, ◌∙◌, inl, inr, arith, length-append, length-drop}
+use Rattle.std.proofs.Common.{◌≡◌, ℕ, get_or, subst, ◌<◌, ◌≤◌, T, List, [], length, Some, None, Option, sym, refl, inl, inr, arith}
 use mathlib.Core.Logic.Iff
-use lib.Seq.{take-append_seam}
+use Rattle.std.proofs.lemmas.List.{get_or_read_under}
 use Rattle.std.proofs.ByRecursion.{All-get_or}
 use Rattle.laws.specs.Systems.{Meaning, Left, Same}
-use Rattle.laws.specs.Layers.{named, different, unlike, past, namable, renamed}
-use Rattle.laws.proofs.Names.{different_apart, different_past, different_if, unlike_different}
+use Rattle.laws.specs.Layers.{named, different, namable, renamed}
+use Rattle.laws.proofs.Names.{different_apart, different_if}
 use Rattle.laws.proofs.Renaming.{named_apart}
 use Rattle.laws.proofs.Piles.{passes, accepted_count, refused_count, long_count, renamed_three, renamed_left, renamed_right}
 use Rattle.cc.specs.declared.Turn.{Turn}
@@ -42,35 +42,34 @@ module _ (m : Meaning) (xs : List ℕ) where
       out : {p q r : ℕ} → Left (renamed m []) p q r → ⊥
       out l = let i = l.three.p_in in omega arith
 
-  -- the count by the largest name
-  module _ (len top : ℕ) (exact : length xs ≡ len) (short : len ≤ 128) (apart : T (unlike xs)) (reach : top ≡ past xs) where
-    pub count_shown : top ≤ m.count → len ≡ (renamed m xs).count
-    count_shown h = sym exact ∙ sym (accepted_count m xs (omega arith) (unlike_different m.count xs apart (omega arith)))
-
-    pub count_hidden : m.count < top → 0 ≡ (renamed m xs).count
-    count_hidden h = sym (refused_count m xs (λ d. omega (arith, different_past m.count xs d)))
-
-  pub renamed_within : (p : ℕ) → p < (renamed m xs).count → p < length xs
+  renamed_within : (p : ℕ) → p < (renamed m xs).count → p < length xs
   renamed_within p h = (passes (namable m xs) p (length xs) h).1
 
-  pub renamed_told : (p q r : ℕ) → p < (renamed m xs).count → q < (renamed m xs).count → r < (renamed m xs).count
+  renamed_told : (p q r : ℕ) → p < (renamed m xs).count → q < (renamed m xs).count → r < (renamed m xs).count
       → (o : Option Turn) → Told m (named xs p) (named xs q) (named xs r) o → Told (renamed m xs) p q r o
   renamed_told p q r hp hq hr None h = λ t. h (renamed_three m xs t)
   renamed_told p q r hp hq hr (Some to-left) h = renamed_left m xs hp hq hr h
   renamed_told p q r hp hq hr (Some to-right) h = renamed_right m xs hp hq hr h
 
--- a list copied to the front of a longer one
-module _ (front list room : List ℕ) (same : front ≡ list) (fits : length list ≤ length room) where
-  abbrev filled : List ℕ
-  filled = front ++ drop (length list - 0) room
+-- v is the mark that p names
+pub record Means (xs : List ℕ) (p v : ℕ) : Type 0 where
+  pub within : p < length xs
+  pub is : named xs p ≡ v
 
-  pub filled_length : length filled ≡ length room
-  filled_length =
-      let e = ap length same in
-      omega (arith, length-append front (drop (length list - 0) room), length-drop (length list - 0) room)
+-- what was read of a slice of the names
+pub meant : (xs ys : List ℕ) (p v : ℕ) → ys ≡ xs → p < length ys → v ≡ get_or ys p v → Means xs p v
+meant xs ys p v e h f =
+    subst (λ l. Means l p v) e (record { within = h; is = sym (get_or_read_under ys p (length ys) v 0 f h refl) })
 
-  pub filled_front : take (length list) filled ≡ list
-  filled_front = ap (λ l. take (length l) filled) (sym same) ∙ take-append_seam front (drop (length list - 0) room) ∙ same
+-- what the system below tells of the marks that three names mean
+pub told_below : (m : Meaning) (xs : List ℕ) → length xs ≤ 128 → T (different m.count xs) → {p q r u v w : ℕ} → Means xs p u → Means xs q v → Means xs r w
+    → (o : Option Turn) → Told m u v w o → Told (renamed m xs) p q r o
+told_below m xs short apart {p} {q} {r} {u} {v} {w} hp hq hr o h =
+    let all = accepted_count m xs short apart in
+    renamed_told m xs p q r (subst (λ n. p < n) (sym all) hp.within) (subst (λ n. q < n) (sym all) hq.within) (subst (λ n. r < n) (sym all) hr.within) o
+    (subst (λ z. Told m (named xs p) (named xs q) z o) (sym hr.is)
+    (subst (λ y. Told m (named xs p) y w o) (sym hq.is)
+    (subst (λ x. Told m x v w o) (sym hp.is) h)))
 
 -- a renaming by the same names of the same meaning
 pub same_names : (m : Meaning) (xs : List ℕ) → Same (renamed m xs) (renamed m xs)

@@ -2,9 +2,11 @@
 
 #![tactic(auto)]
 
+pub mod checks;
 pub mod faults;
 pub mod mirrors;
 pub mod renamings;
+pub mod texts;
 
 ghost use Rattle.std.specs.Prelude.{◌≡◌};
 ghost use Rattle.laws.specs.Systems.{Meaning, Lawful};

@@ -1,14 +1,16 @@
 //! The renaming: a layer that shows some marks of the system below, in an order of its own.
 
-ghost use Rattle.std.specs.Prelude.{◌≡◌, ℕ, ◌<◌, ◌≤◌, T, length, take, Some, None, Ok, Err, MatchBool, MatchOption};
+ghost use Rattle.std.specs.Prelude.{◌≡◌, ℕ, ◌<◌, T, length, Some, None, MatchBool, MatchOption, MatchResult};
 ghost use Rattle.laws.specs.Systems.{Same};
-ghost use Rattle.laws.specs.Layers.{named, unlike, past, renamed};
+ghost use Rattle.laws.specs.Layers.{different, renamed};
 ghost use Rattle.laws.proofs.Piles.{renamed_lawful};
 ghost use Rattle.laws.specs.First.{First, Never};
-ghost use Rattle.cc.specs.Names.{Repeats, Bad, Judged};
+ghost use Rattle.cc.specs.Names.{Bad, Judged};
 
+use super::checks::Checked;
 use super::faults::Fault;
 use super::{CcSystem, Turn};
+use arrayvec::ArrayVec;
 
 // The most names that a renaming holds.
 const LIMIT: usize = 128;
@@ -18,16 +20,10 @@ const LIMIT: usize = 128;
 #[derive(Drop)]
 pub struct Renaming<S: CcSystem> {
     below: S,
-    // the first `len` are the names
-    names: [usize; 128],
-    len: usize,
-    // one past the largest name: the names are marks of each system that has so many
-    top: usize,
+    names: ArrayVec<usize, 128>,
     fault: Option<Fault>,
-    ghost long: { length names ≡ 128 },
-    ghost short: { len ≤ 128 },
-    ghost apart: { T (unlike (take len names)) },
-    ghost reach: { top ≡ past (take len names) },
+    // the names are different marks of the system below
+    ghost apart: { T (different (S.CcSystem.meaning below).count names.items) },
 }
 
 impl<S: CcSystem> Renaming<S> {
@@ -35,56 +31,22 @@ impl<S: CcSystem> Renaming<S> {
     pub fn over(below: S, names: &[usize]) -> Renaming<S>
         ensures below { result.below ≡ below }
         ensures judged { Judged (S.CcSystem.meaning below).count names.now result.fault }
-        ensures system { Same (renamed (S.CcSystem.meaning result.below) (take result.len result.names)) (renamed (S.CcSystem.meaning below) names.now) }
+        ensures system { Same (renamed (S.CcSystem.meaning result.below) result.names.items) (renamed (S.CcSystem.meaning below) names.now) }
     {
-        if let Some(fault) = misnamed(below.count(), names) {
-            return Renaming {
-                below,
-                names: [0; 128],
-                len: 0,
-                top: 0,
-                fault: Some(fault),
-            };
-        }
-        Renaming::holding(below, names)
-    }
-
-    // The renaming by an accepted list.
-    fn holding(below: S, list: &[usize]) -> Renaming<S>
-        requires short { length list.now ≤ 128 }
-        requires apart { T (unlike list.now) }
-        requires small { past list.now ≤ 128 }
-        ensures below { result.below ≡ below }
-        ensures fault { result.fault ≡ None }
-        ensures names { take result.len result.names ≡ list.now }
-    {
-        let len = list.len();
-        let top = past_largest(list);
-        let mut names = [0; 128];
-        names[0..len].copy_from_slice(list);
+        let names = match held(below.count(), names) {
+            Ok(names) => names,
+            Err(fault) => {
+                return Renaming {
+                    below,
+                    names: ArrayVec::new(),
+                    fault: Some(fault),
+                };
+            }
+        };
         Renaming {
             below,
             names,
-            len,
-            top,
             fault: None,
-        }
-    }
-
-    // Why the list was refused; none where it was accepted.
-    pub fn fault(&self) -> Option<Fault>
-        ensures fault { result ≡ self.now.fault }
-    {
-        self.fault
-    }
-
-    // The same, for use with `?`.
-    pub fn accepted(&self) -> Result<(), Fault>
-        ensures fault { elim result [ Ok _ ↦ self.now.fault ≡ None | Err f ↦ self.now.fault ≡ Some f ] }
-    {
-        match self.fault {
-            None => Ok(()),
-            Some(fault) => Err(fault),
         }
     }
 
@@ -95,46 +57,47 @@ impl<S: CcSystem> Renaming<S> {
         let Renaming {
             below,
             names: _,
-            len: _,
-            top: _,
             fault: _,
         } = self;
         below
     }
 }
 
-impl<S: CcSystem> CcSystem for Renaming<S> {
-    ghost meaning = { λ r. renamed (S.CcSystem.meaning r.below) (take r.len r.names) };
+impl<S: CcSystem> Checked for Renaming<S> {
+    ghost refusal = { λ r. r.fault };
 
-    ghost lawful = { λ r. renamed_lawful (S.CcSystem.lawful r.below) (take r.len r.names) };
-
-    fn count(&self) -> usize {
-        if self.top <= self.below.count() {
-            self.len
-        } else {
-            0
-        }
-    }
-
-    fn turn(&self, p: usize, q: usize, r: usize) -> Option<Turn> {
-        let n = self.count();
-        if p >= n || q >= n || r >= n {
-            return None;
-        }
-        self.below.turn(self.names[p], self.names[q], self.names[r])
+    fn fault(&self) -> Option<Fault> {
+        self.fault
     }
 }
 
-// Why a list is no renaming of a system with `count` marks.
-fn misnamed(count: usize, names: &[usize]) -> Option<Fault>
-    ensures judged { Judged count names.now result }
-{
-    if names.len() > LIMIT {
-        return Some(Fault::Misnamed(LIMIT));
+impl<S: CcSystem> CcSystem for Renaming<S> {
+    ghost meaning = { λ r. renamed (S.CcSystem.meaning r.below) r.names.items };
+
+    ghost lawful = { λ r. renamed_lawful (S.CcSystem.lawful r.below) r.names.items };
+
+    fn count(&self) -> usize {
+        self.names.len()
     }
+
+    fn turn(&self, p: usize, q: usize, r: usize) -> Option<Turn> {
+        let p = self.names.get(p)?;
+        let q = self.names.get(q)?;
+        let r = self.names.get(r)?;
+        self.below.turn(*p, *q, *r)
+    }
+}
+
+// A list as the names of marks of a system with `count` marks, or why it is none.
+fn held(count: usize, names: &[usize]) -> Result<ArrayVec<usize, 128>, Fault>
+    ensures judged { MatchResult result (λ held. (held.items ≡ names.now) × Judged count names.now None) (λ fault. Judged count names.now (Some fault)) }
+{
+    let Ok(held) = ArrayVec::try_from(names) else {
+        return Err(Fault::Misnamed(LIMIT));
+    };
     match first_bad(count, names) {
-        Some(i) => Some(Fault::Misnamed(i)),
-        None => None,
+        Some(i) => Err(Fault::Misnamed(i)),
+        None => Ok(held),
     }
 }
 
@@ -142,12 +105,7 @@ fn misnamed(count: usize, names: &[usize]) -> Option<Fault>
 fn first_bad(count: usize, names: &[usize]) -> Option<usize>
     ensures first { MatchOption result (Never (length names.now) (Bad count names.now)) (First (length names.now) (Bad count names.now)) }
 {
-    for i in 0..names.len() {
-        if is_bad(count, names, i) {
-            return Some(i);
-        }
-    }
-    None
+    (0..names.len()).find(|i| is_bad(count, names, *i))
 }
 
 // Whether the i-th entry is bad.
@@ -155,32 +113,5 @@ fn is_bad(count: usize, names: &[usize], i: usize) -> bool
     requires within { i < length names.now }
     ensures bad { MatchBool result (Bad count names.now i) (Bad count names.now i → ⊥) }
 {
-    names[i] >= count || repeats(names, i)
-}
-
-// Whether an entry before the i-th is the same.
-fn repeats(names: &[usize], i: usize) -> bool
-    requires within { i < length names.now }
-    ensures repeats { MatchBool result (Repeats names.now i) (Repeats names.now i → ⊥) }
-{
-    for j in 0..i {
-        if names[j] == names[i] {
-            return true;
-        }
-    }
-    false
-}
-
-// One past the largest entry.
-fn past_largest(names: &[usize]) -> usize
-    requires small { past names.now ≤ 128 }
-    ensures past { result ≡ past names.now }
-{
-    let mut top = 0;
-    for x in names {
-        if *x >= top {
-            top = *x + 1;
-        }
-    }
-    top
+    names[i] >= count || names[..i].contains(&names[i])
 }
