@@ -9,7 +9,7 @@
 ghost use Rattle.laws.specs.Theorems.{MirrorLaw, SomeHidden, Insertion, Fan, ThreeOrMore, Existence, Uniqueness, GoesByTurns, Mirrored, Picked, Piled};
 
 // The theory of outlines: its contract names the theorems.
-pub fn theory_stands() -> u8
+pub fn theory_stands()
     ensures mirror { MirrorLaw }
     ensures hidden { SomeHidden }
     ensures insertion { Insertion }
@@ -21,6 +21,4 @@ pub fn theory_stands() -> u8
     ensures mirrored { Mirrored }
     ensures renamed { Picked }
     ensures piled { Piled }
-{
-    0
-}
+{}

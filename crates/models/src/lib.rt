@@ -13,11 +13,9 @@ ghost use Rattle.models.specs.Circles.{OutsideByDeterminant};
 
 // Systems that go by the signs of determinants: rows in general position, and among them points of the plane and stars;
 // and that a star's determinant tells which places lie outside of a circle.
-pub fn determinants_stand() -> u8
+pub fn determinants_stand()
     ensures signs { SignsKeepTheLaws }
     ensures points { PointsKeepTheLaws }
     ensures stars { StarsKeepTheLaws }
     ensures circles { OutsideByDeterminant }
-{
-    0
-}
+{}

@@ -3,10 +3,8 @@
 ghost use Rattle.models.specs.Networks.{CrossesOnce, TurnsByCrossings, NetworksLawful};
 
 // The theory of reflection networks: its contract names the theorems.
-pub fn networks_stand() -> u8
+pub fn networks_stand()
     ensures once { CrossesOnce }
     ensures turns { TurnsByCrossings }
     ensures lawful { NetworksLawful }
-{
-    0
-}
+{}

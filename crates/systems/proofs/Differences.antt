@@ -1,7 +1,6 @@
 -- The steps of the determinants: each computed number is the one that the contract names, and small.
 use Rattle.std.proofs.Common.{◌≤◌, ℤ, ◌+ℤ◌, ◌-ℤ◌, ◌*ℤ◌, nat_abs, w32, w64, to_z, of_z}
-use Rattle.systems.specs.declared.geometry.Offset.{Offset}
-use Rattle.systems.specs.Offsets.{Short}
+use Rattle.systems.specs.declared.offsets.Offset.{Offset}
 use Rattle.systems.proofs.Bounded.{Is, exact, times, plus, minus, back}
 
 -- the difference of two coordinates, as the code casts it
@@ -14,20 +13,20 @@ along a b h k = back w64 (back w32 (minus (back w32 (exact a h) tt) (back w32 (e
 abbrev bits : ℤ → ℤ
 bits z = to_z w64 (of_z w64 z)
 
-pub a_of : {p : Offset} → Short p → Is 20000 (bits p.a) p.a
-a_of {p} h = back w64 (exact p.a h.a_short) tt
+pub a_of : (p : Offset) → Is 20000 (bits p.a) p.a
+a_of p = back w64 (exact p.a p.a_short) tt
 
-pub b_of : {p : Offset} → Short p → Is 20000 (bits p.b) p.b
-b_of {p} h = back w64 (exact p.b h.b_short) tt
+pub b_of : (p : Offset) → Is 20000 (bits p.b) p.b
+b_of p = back w64 (exact p.b p.b_short) tt
 
-pub minor_of : {p q : Offset} → Short p → Short q
+pub minor_of : (p q : Offset)
     → Is 800000000 (bits (bits p.a *ℤ bits q.b) -ℤ bits (bits p.b *ℤ bits q.a)) (p.a *ℤ q.b -ℤ p.b *ℤ q.a)
-minor_of h k = minus (back w64 (times (a_of h) (b_of k)) tt) (back w64 (times (b_of h) (a_of k)) tt)
+minor_of p q = minus (back w64 (times (a_of p) (b_of q)) tt) (back w64 (times (b_of p) (a_of q)) tt)
 
 -- the square of an offset's length
-pub square_of : {o : Offset} → Short o
+pub square_of : (o : Offset)
     → Is 800000000 (bits (bits o.a *ℤ bits o.a) +ℤ bits (bits o.b *ℤ bits o.b)) (o.a *ℤ o.a +ℤ o.b *ℤ o.b)
-square_of h = plus (back w64 (times (a_of h) (a_of h)) tt) (back w64 (times (b_of h) (b_of h)) tt)
+square_of o = plus (back w64 (times (a_of o) (a_of o)) tt) (back w64 (times (b_of o) (b_of o)) tt)
 
 -- w times a minor m
 pub weighted : (w m : ℤ) → nat_abs w ≤ 800000000 → nat_abs m ≤ 800000000 → Is 640000000000000000 (bits w *ℤ bits m) (w *ℤ m)

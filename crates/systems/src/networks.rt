@@ -1,48 +1,57 @@
 //! Reflection networks: a CC system by the crossings of its wires.
 
-ghost use Rattle.std.specs.Prelude.{◌≡◌, ℕ, ◌+◌, ◌*◌, ◌<◌, ◌≤◌, T, ◌↔◌, [], length, Some, None, Ok, Err, MatchOption, MatchResult, ◌==◌, slice_index};
+ghost use Rattle.std.specs.Prelude.{◌≡◌, ℕ, ◌+◌, ◌*◌, ◌<◌, ◌≤◌, T, ◌↔◌, [], length, Some, None, MatchResult, ◌==◌, slice_index};
 ghost use Rattle.models.specs.Threes.{pairs_of};
-ghost use Rattle.models.specs.Networks.{upper, lower, InRange, Legal, Network, network, crossing};
+ghost use Rattle.models.specs.Networks.{upper, lower, InRange, Network, network, crossing};
 ghost use Rattle.models.proofs.Networked.{network_lawful_few};
 ghost use Rattle.systems.specs.Opened.{Holds};
-ghost use Rattle.systems.specs.Networks.{FirstWithout, Judged, Timed, OneJudgement, ThreeWires};
+ghost use Rattle.systems.specs.Networks.{Judged, Timed, OneJudgement, ThreeWires};
 
 use super::counts::pairs;
 use super::orders::in_order;
-use cc::faults::{Fault, accepted};
+use cc::checks::Checked;
+use cc::faults::Fault;
 use cc::{CcSystem, Turn};
-
-// The first crossing that has not both its places among n wires.
-fn beyond(n: usize, crossings: &[usize]) -> Option<usize>
-    requires { n ≤ 32 }
-    ensures first { MatchOption result ((t : ℕ) → t < length crossings.now → InRange n crossings.now t) (λ t. FirstWithout (InRange n crossings.now) (length crossings.now) t) }
-{
-    for (t, k) in crossings.iter().enumerate() {
-        if *k >= n || *k + 1 >= n {
-            return Some(t);
-        }
-    }
-    None
-}
+use std::array;
 
 // The wires, from top to bottom, before the first crossing.
 fn start() -> [usize; 32]
     ensures long { length result ≡ 32 }
     ensures wires { (p : ℕ) → p < 32 → slice_index result p ≡ p }
 {
-    let mut wires = [0usize; 32];
-    for p in 0..32 {
-        wires[p] = p;
+    array::from_fn(|p| p)
+}
+
+// Whether a list has the length of a network of n wires.
+fn check_length(n: usize, crossings: &[usize]) -> Result<(), Fault>
+    ensures whole { MatchResult result (λ _. (n ≤ 32) × (length crossings.now ≡ pairs_of n)) (λ fault. Judged n crossings.now (Some fault)) }
+{
+    if n > 32 {
+        return Err(Fault::Outsize(32));
     }
-    wires
+    if crossings.len() != pairs(n) {
+        return Err(Fault::Miscounted(crossings.len()));
+    }
+    Ok(())
+}
+
+// Whether each crossing has both its places among n wires.
+fn check_range(n: usize, crossings: &[usize]) -> Result<(), Fault>
+    requires whole { (n ≤ 32) × (length crossings.now ≡ pairs_of n) }
+    ensures in_range { MatchResult result (λ _. (t : ℕ) → t < length crossings.now → InRange n crossings.now t) (λ fault. Judged n crossings.now (Some fault)) }
+{
+    match crossings.iter().position(|k| *k >= n || *k + 1 >= n) {
+        Some(t) => Err(Fault::Outsize(t)),
+        None => Ok(()),
+    }
 }
 
 // Follows the wires through the crossings: the entry at which each pair crosses, in row i at j for i < j,
-// or else the first illegal crossing.
-fn crossing_times(n: usize, crossings: &[usize]) -> Result<[u16; 1024], usize>
+// or else why the crossings are no network.
+fn crossing_times(n: usize, crossings: &[usize]) -> Result<[u16; 1024], Fault>
     requires whole { (n ≤ 32) × (length crossings.now ≡ pairs_of n) }
     requires in_range { (t : ℕ) → t < length crossings.now → InRange n crossings.now t }
-    ensures times { MatchResult result (λ times. Network n crossings.now × (length times ≡ 1024) × Timed n crossings.now times) (λ t. FirstWithout (Legal crossings.now) (length crossings.now) t) }
+    ensures judged { MatchResult result (λ times. Judged n crossings.now None × (length times ≡ 1024) × Timed n crossings.now times) (λ fault. Judged n crossings.now (Some fault)) }
 {
     let mut wires = start();
     let mut times = [0u16; 1024];
@@ -50,7 +59,7 @@ fn crossing_times(n: usize, crossings: &[usize]) -> Result<[u16; 1024], usize>
         let upper = wires[*k];
         let lower = wires[*k + 1];
         if lower <= upper {
-            return Err(t);
+            return Err(Fault::Recrossed(t));
         }
         times[32 * upper + lower] = t as u16;
         wires[*k] = lower;
@@ -59,33 +68,13 @@ fn crossing_times(n: usize, crossings: &[usize]) -> Result<[u16; 1024], usize>
     Ok(times)
 }
 
-// Why a list has not the length of a network of n wires, if it has not.
-fn misfit(n: usize, crossings: &[usize]) -> Option<Fault>
-    ensures fits { MatchOption result ((n ≤ 32) × (length crossings.now ≡ pairs_of n)) (λ f. Judged n crossings.now (Some f)) }
-{
-    if n > 32 {
-        return Some(Fault::Outsize(32));
-    }
-    if crossings.len() != pairs(n) {
-        return Some(Fault::Miscounted(crossings.len()));
-    }
-    None
-}
-
 // The times of a network of n wires, or why the crossings are none.
 fn times_of(n: usize, crossings: &[usize]) -> Result<[u16; 1024], Fault>
-    ensures judged { MatchResult result (λ times. Judged n crossings.now None × (length times ≡ 1024) × Timed n crossings.now times) (λ f. Judged n crossings.now (Some f)) }
+    ensures judged { MatchResult result (λ times. Judged n crossings.now None × (length times ≡ 1024) × Timed n crossings.now times) (λ fault. Judged n crossings.now (Some fault)) }
 {
-    if let Some(fault) = misfit(n, crossings) {
-        return Err(fault);
-    }
-    if let Some(t) = beyond(n, crossings) {
-        return Err(Fault::Outsize(t));
-    }
-    match crossing_times(n, crossings) {
-        Ok(times) => Ok(times),
-        Err(t) => Err(Fault::Recrossed(t)),
-    }
+    check_length(n, crossings)?;
+    check_range(n, crossings)?;
+    crossing_times(n, crossings)
 }
 
 // A CC system of at most 32 marks by the crossings of as many wires. The wires stand 0, 1, .. from top to bottom, and a crossing k swaps
@@ -128,24 +117,18 @@ impl<'a> ReflectionNetwork<'a> {
     {
         ReflectionNetwork {
             count: 0,
-            crossings: &crossings[0..0],
+            crossings: &crossings[..0],
             times: [0u16; 1024],
             fault: Some(fault),
         }
     }
+}
 
-    // Why the network was refused, if it was.
-    pub fn fault(&self) -> Option<Fault>
-        ensures fault { result ≡ self.now.fault }
-    {
+impl<'a> Checked for ReflectionNetwork<'a> {
+    ghost refusal = { λ s. s.fault };
+
+    fn fault(&self) -> Option<Fault> {
         self.fault
-    }
-
-    // The same as a result.
-    pub fn accepted(&self) -> Result<(), Fault>
-        ensures accepted { elim result [ Ok _ ↦ self.now.fault ≡ None | Err f ↦ self.now.fault ≡ Some f ] }
-    {
-        accepted(self.fault)
     }
 }
 
@@ -167,12 +150,10 @@ impl<'a> CcSystem for ReflectionNetwork<'a> {
 }
 
 // The contract of the opener leaves one answer only, as in the examples.
-pub fn networks_stand() -> u8
+pub fn networks_stand()
     ensures one { OneJudgement }
     ensures examples { ThreeWires }
-{
-    0
-}
+{}
 
 #[cfg(test)]
 mod tests {

@@ -1,6 +1,6 @@
 //! Three marks in rising order.
 
-ghost use Rattle.std.specs.Prelude.{◌≡◌, ◌<◌, not, if◌then◌else◌, MatchOption};
+ghost use Rattle.std.specs.Prelude.{◌≡◌, ◌<◌, not, if◌then◌else◌, MatchBool, MatchOption};
 ghost use Rattle.laws.specs.Systems.{Three};
 ghost use Rattle.systems.specs.Orders.{is_left, Ordered};
 
@@ -28,11 +28,18 @@ impl Order {
     }
 }
 
+// Whether p, q and r are three different marks below n.
+pub(crate) fn are_three(n: usize, p: usize, q: usize, r: usize) -> bool
+    ensures three { MatchBool result (Three n p q r) (Three n p q r → ⊥) }
+{
+    p < n && q < n && r < n && p != q && q != r && r != p
+}
+
 // Three different marks below n in rising order; none where one is not below n or two are alike.
 pub fn in_order(n: usize, p: usize, q: usize, r: usize) -> Option<Order>
     ensures ordered { MatchOption result (Three n p q r → ⊥) (λ t. Ordered n p q r t.low t.mid t.high t.same) }
 {
-    if p >= n || q >= n || r >= n || p == q || q == r || r == p {
+    if !are_three(n, p, q, r) {
         return None;
     }
     Some(sorted(n, p, q, r))

@@ -1,13 +1,16 @@
 //! Points of the plane as a CC system.
 
-ghost use Rattle.std.specs.Prelude.{◌≡◌, length, Some, None, Ok, Err, MatchBool};
+ghost use Rattle.std.specs.Prelude.{◌≡◌, length, Some, None, MatchBool, MatchResult};
 ghost use Rattle.laws.specs.Systems.{Three, Left, Right};
 ghost use Rattle.models.specs.Places.{Good, plane};
 ghost use Rattle.models.proofs.Plane.{lawful_plane};
 ghost use Rattle.systems.specs.Openings.{Judged, held};
 
-use super::geometry::{determinant, outside, straight, twins};
-use cc::faults::{Fault, accepted};
+use super::geometry::{OnLine, determinant, outside, twins};
+use super::orders::are_three;
+use super::searches::first_three;
+use cc::checks::Checked;
+use cc::faults::Fault;
 use cc::{CcSystem, Turn};
 use models::places::Place;
 
@@ -29,9 +32,9 @@ impl<'a> Points<'a> {
         ensures judged { Judged places.now result.fault }
         ensures list { result.places.now ≡ held result.fault places.now }
     {
-        if let Some(fault) = check(places) {
+        if let Err(fault) = check(places) {
             return Points {
-                places: &places[0..0],
+                places: &places[..0],
                 fault: Some(fault),
             };
         }
@@ -39,20 +42,6 @@ impl<'a> Points<'a> {
             places,
             fault: None,
         }
-    }
-
-    // Why the list was refused; none if it was accepted.
-    pub fn fault(&self) -> Option<Fault>
-        ensures told { result ≡ self.now.fault }
-    {
-        self.fault
-    }
-
-    // The fault as an error, for use with `?`.
-    pub fn accepted(&self) -> Result<(), Fault>
-        ensures told { elim result [ Ok _ ↦ self.now.fault ≡ None | Err f ↦ self.now.fault ≡ Some f ] }
-    {
-        accepted(self.fault)
     }
 
     // The places that are held.
@@ -71,23 +60,31 @@ impl<'a> Points<'a> {
     }
 }
 
-// The first fault of a list of places.
-fn check(places: &[Place]) -> Option<Fault>
-    ensures judged { Judged places.now result }
+// Whether a list of places is within the rules; its first fault if it is not.
+fn check(places: &[Place]) -> Result<(), Fault>
+    ensures judged { MatchResult result (λ _. Judged places.now None) (λ fault. Judged places.now (Some fault)) }
 {
     if places.len() > LIMIT {
-        return Some(Fault::Outsize(LIMIT));
+        return Err(Fault::Outsize(LIMIT));
     }
     if let Some(i) = outside(places) {
-        return Some(Fault::Outsize(i));
+        return Err(Fault::Outsize(i));
     }
     if let Some((i, j)) = twins(places) {
-        return Some(Fault::Twin(i, j));
+        return Err(Fault::Twin(i, j));
     }
-    if let Some((i, j, k)) = straight(places) {
-        return Some(Fault::Straight(i, j, k));
+    match first_three(&OnLine { places }) {
+        Some((i, j, k)) => Err(Fault::Straight(i, j, k)),
+        None => Ok(()),
     }
-    None
+}
+
+impl<'a> Checked for Points<'a> {
+    ghost refusal = { λ s. s.fault };
+
+    fn fault(&self) -> Option<Fault> {
+        self.fault
+    }
 }
 
 impl<'a> CcSystem for Points<'a> {
@@ -100,8 +97,7 @@ impl<'a> CcSystem for Points<'a> {
     }
 
     fn turn(&self, p: usize, q: usize, r: usize) -> Option<Turn> {
-        let n = self.count();
-        if p >= n || q >= n || r >= n || p == q || q == r || r == p {
+        if !are_three(self.count(), p, q, r) {
             return None;
         }
         if self.counterclockwise(p, q, r) {

@@ -1,14 +1,17 @@
 //! The star about a point as a CC system.
 
-ghost use Rattle.std.specs.Prelude.{◌≡◌, ◌-◌, ◌<◌, ◌≤◌, length, Some, None, Ok, Err, MatchBool};
+ghost use Rattle.std.specs.Prelude.{◌≡◌, ◌-◌, ◌<◌, ◌≤◌, length, Some, None, MatchBool, MatchResult};
 ghost use Rattle.laws.specs.Systems.{Three, Left, Right};
 ghost use Rattle.models.specs.Stars.{Clear, star, other};
 ghost use Rattle.models.proofs.StarLaws.{lawful_star};
 ghost use Rattle.systems.specs.Openings.{StarJudged, held};
 
-use super::geometry::{circled, star_determinant};
+use super::geometry::{OnCircleWith, star_determinant};
+use super::orders::are_three;
 use super::points::Points;
-use cc::faults::{Fault, accepted};
+use super::searches::first_three;
+use cc::checks::Checked;
+use cc::faults::Fault;
 use cc::{CcSystem, Turn};
 use models::places::Place;
 
@@ -31,9 +34,9 @@ impl<'a> Star<'a> {
         ensures centre { result.centre ≡ c }
     {
         let places = points.places();
-        if let Some(fault) = check(points, c) {
+        if let Err(fault) = check(points, c) {
             return Star {
-                places: &places[0..0],
+                places: &places[..0],
                 centre: c,
                 fault: Some(fault),
             };
@@ -43,20 +46,6 @@ impl<'a> Star<'a> {
             centre: c,
             fault: None,
         }
-    }
-
-    // Why the star was refused; none if it was accepted.
-    pub fn fault(&self) -> Option<Fault>
-        ensures told { result ≡ self.now.fault }
-    {
-        self.fault
-    }
-
-    // The fault as an error, for use with `?`.
-    pub fn accepted(&self) -> Result<(), Fault>
-        ensures told { elim result [ Ok _ ↦ self.now.fault ≡ None | Err f ↦ self.now.fault ≡ Some f ] }
-    {
-        accepted(self.fault)
     }
 
     // The point that a mark of the star means; none if it is no mark.
@@ -94,18 +83,26 @@ impl<'a> Star<'a> {
     }
 }
 
-// The first fault of the star about c.
-fn check(points: &Points, c: usize) -> Option<Fault>
-    ensures judged { StarJudged points.now.places.now c result }
+// Whether there is a star about c; the first fault if there is none.
+fn check(points: &Points, c: usize) -> Result<(), Fault>
+    ensures judged { MatchResult result (λ _. StarJudged points.now.places.now c None) (λ fault. StarJudged points.now.places.now c (Some fault)) }
 {
     let places = points.places();
     if c >= places.len() {
-        return Some(Fault::Stranger(c));
+        return Err(Fault::Stranger(c));
     }
-    if let Some((i, j, k)) = circled(places, c) {
-        return Some(Fault::Circled(i, j, k));
+    match first_three(&OnCircleWith { places, centre: c }) {
+        Some((i, j, k)) => Err(Fault::Circled(i, j, k)),
+        None => Ok(()),
     }
-    None
+}
+
+impl<'a> Checked for Star<'a> {
+    ghost refusal = { λ s. s.fault };
+
+    fn fault(&self) -> Option<Fault> {
+        self.fault
+    }
 }
 
 impl<'a> CcSystem for Star<'a> {
@@ -114,15 +111,11 @@ impl<'a> CcSystem for Star<'a> {
     ghost lawful = { λ s. lawful_star s.places.now s.centre s.clear };
 
     fn count(&self) -> usize {
-        if self.places.len() == 0 {
-            return 0;
-        }
-        self.places.len() - 1
+        self.places.len().saturating_sub(1)
     }
 
     fn turn(&self, p: usize, q: usize, r: usize) -> Option<Turn> {
-        let n = self.count();
-        if p >= n || q >= n || r >= n || p == q || q == r || r == p {
+        if !are_three(self.count(), p, q, r) {
             return None;
         }
         if self.counterclockwise(p, q, r) {

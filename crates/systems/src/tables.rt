@@ -1,10 +1,10 @@
 //! Turn tables: a CC system by the turns of all its threes.
 
-ghost use Rattle.std.specs.Prelude.{◌≡◌, ◌+◌, ◌*◌, ◌<◌, ◌≤◌, T, ◌↔◌, [], ◌∷◌, map, length, if◌then◌else◌, Some, None, Ok, Err, MatchOption};
+ghost use Rattle.std.specs.Prelude.{◌≡◌, ◌+◌, ◌*◌, ◌<◌, ◌≤◌, T, ◌↔◌, [], ◌∷◌, map, length, if◌then◌else◌, Some, None, MatchResult};
 ghost use Rattle.laws.specs.Systems.{Lawful};
 ghost use Rattle.models.specs.Spread.{spread};
 ghost use Rattle.models.specs.Threes.{table_turns, place3, threes_of};
-ghost use Rattle.models.specs.Rising.{AllLawful, FirstLawless};
+ghost use Rattle.models.specs.Rising.{AllLawful};
 ghost use Rattle.models.specs.Catalogue.{keeps, pattern};
 ghost use Rattle.models.proofs.Patterns.{table_lawful};
 ghost use Rattle.systems.specs.Orders.{is_left};
@@ -13,7 +13,8 @@ ghost use Rattle.systems.specs.Tables.{turn_table, Fits, Judged, OneJudgement, E
 
 use super::counts::{pairs, threes};
 use super::orders::in_order;
-use cc::faults::{Fault, accepted};
+use cc::checks::Checked;
+use cc::faults::Fault;
 use cc::{CcSystem, Turn};
 use models::catalogue::{is_lawful_five, is_lawful_four};
 
@@ -25,126 +26,124 @@ fn entry(n: usize, i: usize, j: usize, k: usize) -> usize
     threes(n) + pairs(n - i - 1) + (k - j - 1) - threes(n - i) - pairs(n - j)
 }
 
-// Whether i < j < k turn left.
-fn turns_left(n: usize, turns: &[Turn], i: usize, j: usize, k: usize) -> bool
-    requires rising { (i < j) × (j < k) × (k < n) }
-    requires fits { Fits n turns.now }
-    ensures left { result ≡ table_turns n (map is_left turns.now) i j k }
-{
-    match turns[entry(n, i, j, k)] {
-        Turn::Left => true,
-        Turn::Right => false,
-    }
-}
-
 // A pattern with one more turn, at its lowest bit.
 fn before(left: bool, rest: u16) -> u16
     requires { rest < 1024 }
     ensures value { result ≡ (if left then 1 else 0) + 2 * rest }
     ensures bound { result ≤ 2 * rest + 1 }
 {
-    if left { 1 + 2 * rest } else { 2 * rest }
+    u16::from(left) + 2 * rest
 }
 
-// The pattern of four marks in rising order.
-fn four_pattern(n: usize, turns: &[Turn], a: usize, b: usize, c: usize, d: usize) -> u16
-    requires rising { (a < b) × (b < c) × (c < d) × (d < n) }
-    requires fits { Fits n turns.now }
-    ensures value { result ≡ pattern 4 (table_turns n (map is_left turns.now)) (a ∷ b ∷ c ∷ d ∷ []) }
-    ensures bound { result < 16 }
-{
-    let bcd = before(turns_left(n, turns, b, c, d), 0);
-    let acd = before(turns_left(n, turns, a, c, d), bcd);
-    let abd = before(turns_left(n, turns, a, b, d), acd);
-    before(turns_left(n, turns, a, b, c), abd)
+// One turn for each three of at most 24 marks, in rising order of the threes.
+#[derive(Clone, Copy)]
+struct Turns<'a> {
+    count: usize,
+    list: &'a [Turn],
+    ghost fits: { Fits count list.now },
 }
 
-// The pattern of five marks in rising order.
-fn five_pattern(n: usize, turns: &[Turn], a: usize, b: usize, c: usize, d: usize, e: usize) -> u16
-    requires rising { (a < b) × (b < c) × (c < d) × (d < e) × (e < n) }
-    requires fits { Fits n turns.now }
-    ensures value { result ≡ pattern 5 (table_turns n (map is_left turns.now)) (a ∷ b ∷ c ∷ d ∷ e ∷ []) }
-    ensures bound { result < 1024 }
-{
-    let cde = before(turns_left(n, turns, c, d, e), 0);
-    let bde = before(turns_left(n, turns, b, d, e), cde);
-    let bce = before(turns_left(n, turns, b, c, e), bde);
-    let bcd = before(turns_left(n, turns, b, c, d), bce);
-    let ade = before(turns_left(n, turns, a, d, e), bcd);
-    let ace = before(turns_left(n, turns, a, c, e), ade);
-    let acd = before(turns_left(n, turns, a, c, d), ace);
-    let abe = before(turns_left(n, turns, a, b, e), acd);
-    let abd = before(turns_left(n, turns, a, b, d), abe);
-    before(turns_left(n, turns, a, b, c), abd)
-}
-
-// The first rising four that breaks law 4.
-fn lawless_four(n: usize, turns: &[Turn]) -> Option<(usize, usize, usize, usize)>
-    requires { Fits n turns.now }
-    ensures first { MatchOption result (AllLawful 4 (turn_table n turns.now)) (λ m. FirstLawless 4 (turn_table n turns.now) (m.0 ∷ m.1 ∷ m.2 ∷ m.3 ∷ [])) }
-{
-    for a in 0..n {
-        for b in a + 1..n {
-            for c in b + 1..n {
-                for d in c + 1..n {
-                    if !is_lawful_four(four_pattern(n, turns, a, b, c, d)) {
-                        return Some((a, b, c, d));
-                    }
-                }
-            }
+impl<'a> Turns<'a> {
+    // The turns of so many marks, if the list has the length for it.
+    fn of(count: usize, list: &'a [Turn]) -> Result<Turns<'a>, Fault>
+        ensures fits { MatchResult result (λ t. (t.count ≡ count) × (t.list.now ≡ list.now)) (λ f. Judged count list.now (Some f)) }
+    {
+        if count > 24 {
+            return Err(Fault::Outsize(24));
         }
+        if list.len() != threes(count) {
+            return Err(Fault::Miscounted(list.len()));
+        }
+        Ok(Turns { count, list })
     }
-    None
-}
 
-// The first rising five that breaks law 4 or 5.
-fn lawless_five(n: usize, turns: &[Turn]) -> Option<(usize, usize, usize, usize, usize)>
-    requires { Fits n turns.now }
-    ensures first { MatchOption result (AllLawful 5 (turn_table n turns.now)) (λ m. FirstLawless 5 (turn_table n turns.now) (m.0 ∷ m.1 ∷ m.2 ∷ m.3 ∷ m.4 ∷ [])) }
-{
-    for a in 0..n {
-        for b in a + 1..n {
-            for c in b + 1..n {
-                for d in c + 1..n {
-                    for e in d + 1..n {
-                        if !is_lawful_five(five_pattern(n, turns, a, b, c, d, e)) {
-                            return Some((a, b, c, d, e));
+    // Whether i < j < k turn left.
+    fn is_left(&self, i: usize, j: usize, k: usize) -> bool
+        requires rising { (i < j) × (j < k) × (k < self.now.count) }
+        ensures left { result ≡ table_turns self.now.count (map is_left self.now.list.now) i j k }
+    {
+        self.list[entry(self.count, i, j, k)] == Turn::Left
+    }
+
+    // The pattern of four marks in rising order.
+    fn four_pattern(&self, a: usize, b: usize, c: usize, d: usize) -> u16
+        requires rising { (a < b) × (b < c) × (c < d) × (d < self.now.count) }
+        ensures value { result ≡ pattern 4 (table_turns self.now.count (map is_left self.now.list.now)) (a ∷ b ∷ c ∷ d ∷ []) }
+        ensures bound { result < 16 }
+    {
+        let bcd = before(self.is_left(b, c, d), 0);
+        let acd = before(self.is_left(a, c, d), bcd);
+        let abd = before(self.is_left(a, b, d), acd);
+        before(self.is_left(a, b, c), abd)
+    }
+
+    // The pattern of five marks in rising order.
+    fn five_pattern(&self, a: usize, b: usize, c: usize, d: usize, e: usize) -> u16
+        requires rising { (a < b) × (b < c) × (c < d) × (d < e) × (e < self.now.count) }
+        ensures value { result ≡ pattern 5 (table_turns self.now.count (map is_left self.now.list.now)) (a ∷ b ∷ c ∷ d ∷ e ∷ []) }
+        ensures bound { result < 1024 }
+    {
+        let cde = before(self.is_left(c, d, e), 0);
+        let bde = before(self.is_left(b, d, e), cde);
+        let bce = before(self.is_left(b, c, e), bde);
+        let bcd = before(self.is_left(b, c, d), bce);
+        let ade = before(self.is_left(a, d, e), bcd);
+        let ace = before(self.is_left(a, c, e), ade);
+        let acd = before(self.is_left(a, c, d), ace);
+        let abe = before(self.is_left(a, b, e), acd);
+        let abd = before(self.is_left(a, b, d), abe);
+        before(self.is_left(a, b, c), abd)
+    }
+
+    // Whether all rising fours keep law 4.
+    fn check_fours(&self) -> Result<(), Fault>
+        ensures fours { MatchResult result (λ _. AllLawful 4 (turn_table self.now.count self.now.list.now)) (λ fault. Judged self.now.count self.now.list.now (Some fault)) }
+    {
+        let n = self.count;
+        for a in 0..n {
+            for b in a + 1..n {
+                for c in b + 1..n {
+                    for d in c + 1..n {
+                        if !is_lawful_four(self.four_pattern(a, b, c, d)) {
+                            return Err(Fault::LawlessFour(a, b, c, d));
                         }
                     }
                 }
             }
         }
+        Ok(())
     }
-    None
+
+    // Whether all rising fives keep laws 4 and 5, and so the table all laws.
+    fn check_fives(&self) -> Result<(), Fault>
+        requires fours { AllLawful 4 (turn_table self.now.count self.now.list.now) }
+        ensures judged { MatchResult result (λ _. Judged self.now.count self.now.list.now None) (λ fault. Judged self.now.count self.now.list.now (Some fault)) }
+    {
+        let n = self.count;
+        for a in 0..n {
+            for b in a + 1..n {
+                for c in b + 1..n {
+                    for d in c + 1..n {
+                        for e in d + 1..n {
+                            if !is_lawful_five(self.five_pattern(a, b, c, d, e)) {
+                                return Err(Fault::LawlessFive(a, b, c, d, e));
+                            }
+                        }
+                    }
+                }
+            }
+        }
+        Ok(())
+    }
 }
 
-// Why a list has not the length of a table of n marks, if it has not.
-fn misfit(n: usize, turns: &[Turn]) -> Option<Fault>
-    ensures fits { MatchOption result (Fits n turns.now) (λ f. Judged n turns.now (Some f)) }
+// Whether a list is a table of n marks; its first fault if it is none.
+fn check(n: usize, turns: &[Turn]) -> Result<(), Fault>
+    ensures judged { MatchResult result (λ _. Judged n turns.now None) (λ fault. Judged n turns.now (Some fault)) }
 {
-    if n > 24 {
-        return Some(Fault::Outsize(24));
-    }
-    if turns.len() != threes(n) {
-        return Some(Fault::Miscounted(turns.len()));
-    }
-    None
-}
-
-// Why a list is no table of n marks, if it is none.
-fn fault_of(n: usize, turns: &[Turn]) -> Option<Fault>
-    ensures judged { Judged n turns.now result }
-{
-    if let Some(fault) = misfit(n, turns) {
-        return Some(fault);
-    }
-    if let Some((a, b, c, d)) = lawless_four(n, turns) {
-        return Some(Fault::LawlessFour(a, b, c, d));
-    }
-    if let Some((a, b, c, d, e)) = lawless_five(n, turns) {
-        return Some(Fault::LawlessFive(a, b, c, d, e));
-    }
-    None
+    let turns = Turns::of(n, turns)?;
+    turns.check_fours()?;
+    turns.check_fives()
 }
 
 // A CC system of at most 24 marks by one turn for each three of them, in rising order of the threes.
@@ -166,7 +165,7 @@ impl<'a> TurnTable<'a> {
         ensures lawful { (result.fault ≡ None) ↔ (Fits count turns.now × Lawful (turn_table count turns.now)) }
         ensures holds { Holds count turns.now result.count result.turns.now result.fault }
     {
-        if let Some(fault) = fault_of(count, turns) {
+        if let Err(fault) = check(count, turns) {
             return TurnTable::refused(turns, fault);
         }
         TurnTable {
@@ -182,23 +181,17 @@ impl<'a> TurnTable<'a> {
     {
         TurnTable {
             count: 0,
-            turns: &turns[0..0],
+            turns: &turns[..0],
             fault: Some(fault),
         }
     }
+}
 
-    // Why the table was refused, if it was.
-    pub fn fault(&self) -> Option<Fault>
-        ensures fault { result ≡ self.now.fault }
-    {
+impl<'a> Checked for TurnTable<'a> {
+    ghost refusal = { λ s. s.fault };
+
+    fn fault(&self) -> Option<Fault> {
         self.fault
-    }
-
-    // The same as a result.
-    pub fn accepted(&self) -> Result<(), Fault>
-        ensures accepted { elim result [ Ok _ ↦ self.now.fault ≡ None | Err f ↦ self.now.fault ≡ Some f ] }
-    {
-        accepted(self.fault)
     }
 }
 
@@ -213,18 +206,20 @@ impl<'a> CcSystem for TurnTable<'a> {
 
     fn turn(&self, p: usize, q: usize, r: usize) -> Option<Turn> {
         let order = in_order(self.count, p, q, r)?;
-        let left = turns_left(self.count, self.turns, order.low, order.mid, order.high);
+        let turns = Turns {
+            count: self.count,
+            list: self.turns,
+        };
+        let left = turns.is_left(order.low, order.mid, order.high);
         Some(order.turn(left))
     }
 }
 
 // The theory of turn tables: the contract of the opener leaves one answer only, and the threes stand in rising order.
-pub fn tables_stand() -> u8
+pub fn tables_stand()
     ensures one { OneJudgement }
     ensures entries { EntriesRise }
-{
-    0
-}
+{}
 
 #[cfg(test)]
 mod tests {

@@ -2,6 +2,7 @@
 
 use super::points::Points;
 use super::stars::Star;
+use cc::checks::Checked;
 use cc::faults::Fault;
 use cc::{CcSystem, Turn};
 use models::places::Place;

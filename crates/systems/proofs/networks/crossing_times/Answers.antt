@@ -1,6 +1,7 @@
 -- The crossing at t swaps two wires of which the upper has the smaller number, and its entry is noted for them.
-use Rattle.std.proofs.Common.{◌≡◌, ◌+◌, ◌<◌, get_or, arith, length-set, below_more}
+use Rattle.std.proofs.Common.{◌≡◌, ◌+◌, ◌<◌, get_or, arith, rules, length-set, below_more}
 use Rattle.models.specs.Networks.{upper, lower}
+use Rattle.systems.specs.Networks.{accepted, recrossed}
 use Rattle.models.proofs.Networked.{all_cross}
 use Rattle.systems.proofs.Following.{stand_more, upper_is, lower_is, lower_in, noted_more}
 use Rattle.systems.proofs.networks.crossing_times.Goals as goal
@@ -48,13 +49,16 @@ loop-t-preserved c =
           legal (c.loop-t.invariant.4 legal),
     )
 
+pub returns-then-lower-upper : goal.returns-then-lower-upper
+returns-then-lower-upper c = record { judged = recrossed c.requires.whole.0 c.requires.whole.1 c.requires.in_range (search rules) }
+
 pub returns : goal.returns
 returns c =
     let cs = c.args.crossings.now in
     let n = c.args.n in
     record {
-      times = (
-        record { long = c.requires.whole.1; range = c.requires.in_range; legal = λ s h. c.loop-t.invariant.3 s (omega arith) },
+      judged = (
+        accepted c.requires.whole.0 (record { long = c.requires.whole.1; range = c.requires.in_range; legal = λ s h. c.loop-t.invariant.3 s (omega arith) }),
         c.loop-t.invariant.1,
         λ i j x y.
             let h = all_cross n cs c.requires.in_range (λ s h. c.loop-t.invariant.3 s (omega arith)) c.requires.whole.1 i j x y in

@@ -5,12 +5,12 @@ use Rattle.systems.specs.Tables.{Judged}
 use Rattle.systems.proofs.Judging.{accepts, table_tested}
 use Rattle.systems.proofs.tables.TurnTable.open.Goals as goal
 
-pub returns-in-Some : goal.returns-in-Some
-returns-in-Some c =
+pub returns-in-Err : goal.returns-in-Err
+returns-in-Err c =
     let n = c.args.count in
     let ts = c.args.turns.now in
     let t = c.refused.result in
-    let judged = subst (Judged n ts) (sym c.refused.ensures.fault) c.in-Some.ensures.judged in
+    let judged = subst (Judged n ts) (sym c.refused.ensures.fault) c.in-Err.ensures.judged in
     record {
       judged = judged;
       lawful = accepts n ts t.fault judged;
