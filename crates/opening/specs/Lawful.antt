@@ -1,0 +1,15 @@
+-- Each system that a sheet tells of keeps the laws.
+use Rattle.std.specs.Prelude.{map}
+use Rattle.laws.specs.Systems.{Lawful}
+use Rattle.models.proofs.Plane.{lawful_plane}
+use Rattle.models.proofs.Networked.{network_lawful_few}
+use Rattle.models.proofs.Patterns.{table_lawful}
+use Rattle.systems.specs.Orders.{is_left}
+use Rattle.opening.specs.declared.opened.Opened.{Opened}
+use Rattle.opening.specs.declared.opened.Opened.TheVariants.{Points, Network, Table}
+use Rattle.opening.specs.Opening.{meaning_of}
+
+pub opened_lawful : (o : Opened) → Lawful (meaning_of o)
+opened_lawful (Points p) = lawful_plane p.places.now p.good
+opened_lawful (Network w) = network_lawful_few w.count w.crossings.now w.few w.legal
+opened_lawful (Table t) = table_lawful t.count (map is_left t.turns.now) t.few t.kept
