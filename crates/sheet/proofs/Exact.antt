@@ -15,7 +15,7 @@ use Rattle.sheet.specs.Theorems.{OneAnswer}
 use Rattle.sheet.specs.Triples.{triple_at}
 use Rattle.sheet.specs.declared.Kind.{Kind}
 use Rattle.sheet.specs.declared.Kind.TheVariants.{Points, Network, Table}
-use Rattle.sheet.specs.declared.entries.Triple.{Triple}
+use Rattle.sheet.specs.declared.spots.Triple.{Triple}
 use Rattle.sheet.specs.Cuts.{cut_unique}
 use Rattle.sheet.specs.FieldsLemmas.{decimal_lacks, signed_lacks}
 use Rattle.sheet.proofs.Heads.{count_six, head_whole}

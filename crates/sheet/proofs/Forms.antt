@@ -1,11 +1,12 @@
 -- Reading lines one after another. Assumes nothing.
-use Rattle.std.proofs.Common.{◌≡◌, ℕ, suc, ◌+◌, ◌-◌, ◌<◌, ◌≤◌, ◌≢◌, List, [], ◌∷◌, ◌++◌, length, take, drop, set, Ok, sym, ap, ◌∙◌, subst, append_assoc, add-zero, zero-add, arith}
-use native.Mathlib.Nat.{sub-zero}
-use Rattle.std.proofs.lemmas.List.{length-take-le, take_more_set}
+use Rattle.std.proofs.Common.{◌≡◌, ℕ, suc, ◌+◌, ◌<◌, ◌≤◌, ◌≢◌, List, [], ◌∷◌, ◌++◌, length, take, set, Ok, Err, Some, Option, Result, sym, ap, ◌∙◌, subst, append_assoc, add-zero, zero-add, arith}
+use Rattle.std.proofs.lemmas.List.{length-take-le, take_all, take_more_set}
+use Rattle.std.specs.Option.{ok_or}
 use Rattle.cc.specs.declared.faults.Fault.{Fault}
-use Rattle.cc.specs.declared.faults.Fault.TheVariants.{Miscounted}
-use Rattle.sheet.specs.Fields.{Lacks}
-use Rattle.sheet.specs.Forms.{Form, Flawed, formless, beyond, Missed, ended, unended, Judged, lines, Fine, Upto, Wrong, missing, surplus, torn, outsize, Stops, Filled}
+use Rattle.cc.specs.declared.faults.Fault.TheVariants.{Torn, Outsize, Miscounted}
+use Rattle.sheet.specs.Fields.{Lacks, Says}
+use Rattle.sheet.specs.Forms.{Form, Flawed, formless, beyond, Missed, ended, unended, Judged, lines, Fine, Upto, Wrong, missing, surplus, torn, outsize, Stops}
+use Rattle.sheet.proofs.Results.{or_none}
 use Rattle.sheet.specs.Cuts.{cut_none, cut_unique, not_nil}
 
 lines_push : {V : Type 0} (f : Form V) (i : ℕ) (vs : List V) (v : V) → lines f i (vs ++ v ∷ []) ≡ lines f i vs ++ (f.line (i + length vs) v ++ 10 ∷ [])
@@ -26,6 +27,21 @@ lines_after f vs v after =
     ∙ append_assoc (lines f 0 vs) (here ++ 10 ∷ []) after
     ∙ ap (λ l. lines f 0 vs ++ l) (append_assoc here (10 ∷ []) after)
 
+-- a line that says nothing, and one that says too much
+pub untold : {V : Type 0} (f : Form V) (i number n : ℕ) (bs : List ℕ) (r : Option V) (fault : Fault) → Says (f.Written i) (f.line i) bs r → Err fault ≡ ok_or r (Torn n) → n ≡ number → Flawed f i number bs fault
+untold f i number n bs r fault told e same =
+    let none = or_none r (Torn n) fault e in
+    subst (Flawed f i number bs) (sym (none.0 ∙ ap Torn same)) (formless (subst (Says (f.Written i) (f.line i) bs) none.1 told))
+
+pub beyond_range : {V : Type 0} (f : Form V) (i number n : ℕ) (bs : List ℕ) (r : Option V) (v : V) → Says (f.Written i) (f.line i) bs r → r ≡ Some v → (f.Fits v → ⊥) → n ≡ number → Flawed f i number bs (Outsize n)
+beyond_range f i number n bs r v told e unfit same =
+    let is = subst (Says (f.Written i) (f.line i) bs) e told in
+    subst (λ n. Flawed f i number bs (Outsize n)) (sym same) (beyond v is.0 unfit is.1)
+
+-- a line that is judged for its place in the sheet
+pub judged_at : {V : Type 0} (form : ℕ → Form V) (count n at i : ℕ) (bs : List ℕ) (r : Result V Fault) → count ≡ n → at ≡ i → Judged (form count) at (at + 2) bs r → Judged (form n) i (i + 2) bs r
+judged_at form count n at i bs r e f h = subst (λ n. Judged (form n) i (i + 2) bs r) e (subst (λ i. Judged (form count) i (i + 2) bs r) f h)
+
 module _ {V : Type 0} (f : Form V) (text : List ℕ) where
   pub upto_more : (vs : List V) (rest : List ℕ) (v : V) (after : List ℕ) → Upto f text vs rest → f.Written (length vs) v → f.Fits v → rest ≡ f.line (length vs) v ++ 10 ∷ after → Upto f text (vs ++ v ∷ []) after
   upto_more vs rest v after so w fits e =
@@ -41,8 +57,8 @@ module _ {V : Type 0} (f : Form V) (text : List ℕ) where
       subst (λ vs. Upto f text vs after) (sym (take_more_set list i v h))
       (upto_more (take i list) rest v after so (subst (λ k. f.Written k v) (sym long) judged.0) judged.1 (e ∙ ap (λ l. l ++ 10 ∷ after) (judged.2 ∙ ap (λ k. f.line k v) (sym long))))
 
-  pub upto_all : (list : List V) (i n : ℕ) (rest : List ℕ) → i ≡ n → rest ≡ [] → Upto f text (take i list) rest → Upto f text (take n list) []
-  upto_all list i n rest e none so = subst (λ k. Upto f text (take k list) []) e (subst (Upto f text (take i list)) none so)
+  pub upto_all : (list : List V) (i : ℕ) (rest : List ℕ) → length list ≤ i → rest ≡ [] → Upto f text (take i list) rest → Upto f text list []
+  upto_all list i rest h none so = subst (λ l. Upto f text l []) (take_all i list h) (subst (Upto f text (take i list)) none so)
 
   module _ (n : ℕ) (vs : List V) (rest : List ℕ) (so : Upto f text vs rest) (i : ℕ) (long : length vs ≡ i) where
     stop : (fault : Fault) → Wrong f n i rest fault → Stops f n text fault
@@ -63,10 +79,3 @@ module _ {V : Type 0} (f : Form V) (text : List ℕ) where
         stop fault (torn h (λ e. not_nil 10 bs after (sym is.1 ∙ e)) (λ v after' w e. none v w (cut_unique 10 bs after (f.line i v) after' is.0 (whole v w) (sym is.1 ∙ e)).0))
     stop_judged whole h bs after is fault (beyond v w unfit e) =
         stop fault (outsize h v after w unfit (is.1 ∙ ap (λ l. l ++ 10 ∷ after) e))
-
--- the values are copied to the front of the caller's list
-pub filled : {V : Type 0} (f : Form V) (n : ℕ) (text : List ℕ) (list all part : List V) → n ≤ length list → length part ≡ length (take (n - 0) list) → part ≡ take (n - 0) all → Upto f text (take n all) [] → Filled f n text list (part ++ drop (n - 0) list)
-filled f n text list all part fits same copied upto =
-    let long : length part ≡ n = same ∙ length-take-le (n - 0) list (omega arith) ∙ sub-zero n in
-    let is = copied ∙ ap (λ k. take k all) (sub-zero n) in
-    record { values = part; many = long; upto = subst (λ vs. Upto f text vs []) (sym is) upto; long = fits; is = ap (λ k. part ++ drop k list) (sub-zero n) }

@@ -11,7 +11,7 @@ use Rattle.sheet.specs.Theorems.{EveryTable, ShortEnough}
 use Rattle.sheet.specs.Triples.{triple_at}
 use Rattle.sheet.specs.declared.Kind.{Kind}
 use Rattle.sheet.specs.declared.Kind.TheVariants.{Points, Network, Table}
-use Rattle.sheet.specs.declared.entries.Triple.{Triple}
+use Rattle.sheet.specs.declared.spots.Triple.{Triple}
 use Rattle.sheet.proofs.Heads.{count_six}
 use Rattle.sheet.proofs.Rising.{all_triples}
 use Rattle.sheet.specs.Turnings.{pairs_few, triples_few}

@@ -7,3 +7,5 @@ pub mod Rising
 pub mod Lengths
 pub mod Rounds
 pub mod Firsts
+pub mod Digits
+pub mod Results

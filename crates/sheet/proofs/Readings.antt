@@ -1,32 +1,40 @@
 -- A head and the lines after it make the answer of a reading. Assumes nothing.
-use Rattle.std.proofs.Common.{◌≡◌, ℕ, ◌⊎◌, List, [], ◌∷◌, ◌++◌, length, sym, ap, ◌∙◌, subst, ⊎_elim, append-nil}
+use Rattle.std.proofs.Common.{◌≡◌, ℕ, ◌-◌, ◌<◌, ◌≤◌, List, length, take, ap, ◌∙◌, subst, arith}
+use Rattle.std.proofs.lemmas.List.{length-take-le}
 use Rattle.cc.specs.declared.faults.Fault.{Fault}
-use Rattle.sheet.specs.Forms.{Filled, Shortfall, Stops, Upto}
-use Rattle.sheet.specs.Sheets.{Declines, Holds, Lists, Opens, Others, Reads, Value, due, form, heads, list, stopped, tight}
+use Rattle.cc.specs.declared.faults.Fault.TheVariants.{Tight}
+use Rattle.sheet.specs.Forms.{Stops}
+use Rattle.sheet.specs.Sheets.{Declines, Holds, Lists, Opens, Value, due, form, limit, list, stopped, tight}
+use Rattle.sheet.specs.Turnings.{pairs_few, triples_few}
 use Rattle.sheet.specs.declared.Kind.{Kind}
+use Rattle.sheet.specs.declared.Kind.TheVariants.{Points, Network, Table}
 
-module _ (k : Kind) (text : List ℕ) (n : ℕ) (rest : List ℕ) (b : Lists) where
-  holds : (vs : List (Value k)) → length vs ≡ due k n → Opens text k n rest → Upto (form k n) rest vs [] → Holds text k n vs
-  holds vs many o upto =
-      record {
-        short = o.short;
-        sheet = record { limited = o.limited; many = many; fine = upto.fine };
-        is = o.is ∙ ap (λ l. heads.line 0 (k, n) ++ 10 ∷ l) (upto.read ∙ append-nil _);
-      }
-
+module _ (k : Kind) (text : List ℕ) (n : ℕ) (rest : List ℕ) where
   -- m lines are due, by another name
-  pub reads : (kind : Kind) (m : ℕ) (a : Lists) → kind ≡ k → m ≡ due k n → Opens text kind n rest → Filled (form k n) m rest (list k b) (list k a) → Others k b a → Reads text kind n b a
-  reads kind m a is many o filled others =
-      subst (λ l. Reads text l n b a) (sym is)
-      (go (subst (λ l. Opens text l n rest) is o) (subst (λ l. Filled (form k n) l rest (list k b) (list k a)) many filled))
-    where
-      go : Opens text k n rest → Filled (form k n) (due k n) rest (list k b) (list k a) → Reads text k n b a
-      go o f = record { values = f.values; holds = holds f.values f.many o f.upto; long = f.long; front = f.is; others = others }
+  pub stops : (kind : Kind) (m : ℕ) (fault : Fault) → kind ≡ k → m ≡ due k n → Opens text kind n rest → Stops (form k n) m rest fault → (room : Lists) → Declines text room fault
+  stops kind m fault is many opens why room =
+      stopped k n rest (subst (λ l. Opens text l n rest) is opens) (subst (λ l. Stops (form k n) l rest fault) many why)
 
-  pub declines : (kind : Kind) (m : ℕ) (fault : Fault) → kind ≡ k → m ≡ due k n → Opens text kind n rest → Stops (form k n) m rest fault ⊎ Shortfall (form k n) m rest (list k b) fault → Declines text b fault
-  declines kind m fault is many o why =
-      let o' = subst (λ l. Opens text l n rest) is o in
-      ⊎_elim
-      (λ stops. stopped k n rest o' stops)
-      (λ less. tight k n less.values (holds less.values less.many o' less.upto) less.under less.is)
-      (subst (λ l. Stops (form k n) l rest fault ⊎ Shortfall (form k n) l rest (list k b) fault) many why)
+-- the most lines that may be due
+abbrev pub most_due : Kind → ℕ
+most_due Points = 128
+most_due Network = 496
+most_due Table = 2024
+
+few_due : (k : Kind) (n : ℕ) → n ≤ limit k → due k n ≤ most_due k
+few_due Points n few = few
+few_due Network n few = pairs_few n (n - 1) few (omega arith)
+few_due Table n few = triples_few n (n - 1) (n - 2) few (omega arith) (omega arith)
+
+-- m of the list's entries are taken, one for each line that is due
+pub due_taken : {V : Type 0} (kind k : Kind) (n m : ℕ) (list : List V) → kind ≡ k → (n ≤ limit kind → m ≡ due kind n) → n ≤ limit kind → most_due k ≤ length list → length (take m list) ≡ due k n
+due_taken kind k n m list is due_is limited room =
+    let e = due_is limited ∙ ap (λ k. due k n) is in
+    let few = few_due k n (subst (λ k. n ≤ limit k) is limited) in
+    length-take-le m list (omega (arith, e, few)) ∙ e
+
+-- the list of the kind is too short for the values
+pub too_short : (k : Kind) (text : List ℕ) (n : ℕ) (vs : List (Value k)) (b : Lists) (fault : Fault) → Holds text k n vs → length (list k b) < length vs → fault ≡ Tight (length vs) → Declines text b fault
+too_short k text n vs b fault h less is =
+    let many = h.sheet.many in
+    tight k n vs h (subst (λ m. length (list k b) < m) many less) (is ∙ ap Tight many)

@@ -6,7 +6,7 @@ use Rattle.sheet.specs.Sheets.{due}
 use Rattle.sheet.specs.Theorems.{AllTriples, Below, Before, Listed}
 use Rattle.sheet.specs.Triples.{after, triple_at}
 use Rattle.sheet.specs.declared.Kind.TheVariants.{Table}
-use Rattle.sheet.specs.declared.entries.Triple.{Triple}
+use Rattle.sheet.specs.declared.spots.Triple.{Triple}
 
 -- t is u, comes before it, or is past it
 same_or_before : (t u : Triple) → t.i ≤ u.i → (t.i ≡ u.i → t.j ≤ u.j) → (t.i ≡ u.i → t.j ≡ u.j → t.k ≤ u.k) → (t ≡ u) ⊎ Before t u

@@ -62,11 +62,6 @@ rest_unique fs x r x' r' was l e = (cut_unique 9 x r x' r' was.0 l (sym was.1 �
 pub cut_none : {b : ℕ} (fs x r : List ℕ) → Lacks b fs → fs ≢ x ++ b ∷ r
 cut_none {b} fs x r l e = lacks_not b x r (λ i. rw (← e) (l i))
 
-pub single : (xs : List ℕ) (b : ℕ) → length xs ≡ 1 → slice_index xs 0 ≡ b → xs ≡ b ∷ []
-single [] b h e = absurd (omega arith)
-single (x ∷ []) b h e = ap (λ y. y ∷ []) e
-single (x ∷ y ∷ xs) b h e = absurd (omega arith)
-
 -- the fields of a turn, cut one after another
 pub record Cuts (fs i ai j aj k last : List ℕ) : Type 0 where
   pub at_i : Lacks 9 i × (fs ≡ i ++ 9 ∷ ai)
@@ -74,12 +69,6 @@ pub record Cuts (fs i ai j aj k last : List ℕ) : Type 0 where
   pub at_k : Lacks 9 k × (aj ≡ k ++ 9 ∷ last)
 
 module _ {fs i ai j aj k last : List ℕ} (cuts : Cuts fs i ai j aj k last) where
-  pub sided : (t : Turn) → last ≡ side t ∷ [] → Parted (turning i j k t) × (116 ∷ 9 ∷ fs ≡ spelled (turning i j k t))
-  sided t e = (
-    (cuts.at_i.0, cuts.at_j.0, cuts.at_k.0),
-    ap (λ l. 116 ∷ 9 ∷ l) (cuts.at_i.1 ∙ ap (λ l. i ++ 9 ∷ l) (cuts.at_j.1 ∙ ap (λ l. j ++ 9 ∷ l) (cuts.at_k.1 ∙ ap (λ l. k ++ 9 ∷ l) e))),
-  )
-
   pub no_side : ((t : Turn) → last ≢ side t ∷ []) → (s : Shape) → Parted s → 116 ∷ 9 ∷ fs ≢ spelled s
   no_side none =
       only_turning fs (λ i' j' k' t p e. none t (rest_unique aj k last k' _ cuts.at_k p.2 (rest_unique ai j aj j' _ cuts.at_j p.1 (rest_unique fs i ai i' _ cuts.at_i p.0 e))))

@@ -1,7 +1,7 @@
 -- What a run of lines says, and how a line or a run of lines is judged.
-use Rattle.std.specs.Prelude.{◌≡◌, ℕ, suc, ◌+◌, ◌<◌, ◌≤◌, ◌≢◌, List, [], ◌∷◌, ◌++◌, length, drop, Result, MatchResult}
+use Rattle.std.specs.Prelude.{◌≡◌, ℕ, suc, ◌+◌, ◌<◌, ◌≢◌, List, [], ◌∷◌, ◌++◌, length, Result, MatchResult}
 use Rattle.cc.specs.declared.faults.Fault.{Fault}
-use Rattle.cc.specs.declared.faults.Fault.TheVariants.{Torn, Outsize, Miscounted, Tight}
+use Rattle.cc.specs.declared.faults.Fault.TheVariants.{Torn, Outsize, Miscounted}
 use Rattle.sheet.specs.Fields.{Lacks}
 
 -- a form of lines that say values of V: the bytes that say v in the i-th line, whether its numbers have at most six digits, and whether
@@ -53,19 +53,3 @@ pub record Stops {V : Type 0} (f : Form V) (n : ℕ) (text : List ℕ) (fault : 
   pub rest : List ℕ
   pub upto : Upto f text good rest
   pub wrong : Wrong f n (length good) rest fault
-
--- all of the text is read into the front of a list, and the rest of the list is as before
-pub record Filled {V : Type 0} (f : Form V) (n : ℕ) (text : List ℕ) (before later : List V) : Type 0 where
-  pub values : List V
-  pub many : length values ≡ n
-  pub upto : Upto f text values []
-  pub long : n ≤ length before
-  pub is : later ≡ values ++ drop n before
-
--- all of the text could be read, but the list is too short
-pub record Shortfall {V : Type 0} (f : Form V) (n : ℕ) (text : List ℕ) (list : List V) (fault : Fault) : Type 0 where
-  pub values : List V
-  pub many : length values ≡ n
-  pub upto : Upto f text values []
-  pub under : length list < n
-  pub is : fault ≡ Tight n

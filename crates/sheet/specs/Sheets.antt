@@ -1,7 +1,8 @@
 -- The text of a sheet, and what reading a text answers.
-use Rattle.std.specs.Prelude.{◌≡◌, ℕ, ◌+◌, ◌-◌, ◌*◌, ◌/◌, ◌<◌, ◌≤◌, List, ◌∷◌, ◌++◌, length, drop, ℤ, pos, negsuc, ◌≤ℤ◌, decimal, Result, MatchResult, ◌≢◌}
+use Rattle.std.specs.Prelude.{◌≡◌, ℕ, ◌+◌, ◌-◌, ◌*◌, ◌/◌, ◌<◌, ◌≤◌, List, ◌∷◌, ◌++◌, length, drop, replicate, ℤ, pos, negsuc, ◌≤ℤ◌, decimal, Result, MatchResult, ◌≢◌}
 use Rattle.std.specs.Fmt.{signed_decimal}
 use Rattle.cc.specs.declared.Turn.{Turn}
+use Rattle.cc.specs.declared.Turn.TheVariants.{Left}
 use Rattle.cc.specs.declared.faults.Fault.{Fault}
 use Rattle.cc.specs.declared.faults.Fault.TheVariants.{Torn, Outsize, Tight}
 use Rattle.models.specs.declared.places.Place.{Place}
@@ -11,7 +12,10 @@ use Rattle.sheet.specs.Shapes.{spelled, head, mark, crossing, turning}
 use Rattle.sheet.specs.Triples.{triple_at}
 use Rattle.sheet.specs.declared.Kind.{Kind}
 use Rattle.sheet.specs.declared.Kind.TheVariants.{Points, Network, Table}
-use Rattle.sheet.specs.declared.entries.Triple.{Triple}
+use Rattle.sheet.specs.declared.spots.Triple.{Triple}
+use Rattle.sheet.specs.declared.rooms.Room.{Room}
+use Rattle.sheet.specs.declared.rooms.Values.{Values}
+use Rattle.sheet.specs.declared.rooms.Values.TheVariants as values
 
 -- a coordinate in range: from -10000 to 10000
 abbrev pub Near : ℤ → Type 0
@@ -78,6 +82,12 @@ pub record Holds (text : List ℕ) (k : Kind) (n : ℕ) (vs : List (Value k)) : 
   pub sheet : Sheet k n vs
   pub is : text ≡ written k n vs
 
+-- the text is that of the sheet with these values
+abbrev pub Tells : List ℕ → Values → Type 0
+Tells text (values.Points ps) = Holds text Points (length ps.now) ps.now
+Tells text (values.Network n cs) = Holds text Network n cs.now
+Tells text (values.Table n ts) = Holds text Table n ts.now
+
 -- the text is short enough, and begins with a head in range
 pub record Opens (text : List ℕ) (k : Kind) (n : ℕ) (rest : List ℕ) : Type 0 where
   pub short : length text ≤ 32768
@@ -128,3 +138,13 @@ pub data Declines (text : List ℕ) (b : Lists) (fault : Fault) : Type 0 where
 -- what `read` answers, and what it leaves in the lists: a refusal leaves them as they were
 abbrev pub Answers : List ℕ → Lists → Lists → Result (Kind × ℕ) Fault → Type 0
 Answers text b a r = MatchResult r (λ o. Reads text o.0 o.1 b a) (λ e. Declines text b e × (a ≡ b))
+
+-- the values are copied to the front of the list, and the rest of it is as before; or it is too short, and is as before
+abbrev pub Copied : {V : Type 0} → List V → List V → List V → Result (Unit {0}) Fault → Type 0
+Copied vs b a r =
+    MatchResult r (λ _. (length vs ≤ length b) × (a ≡ vs ++ drop (length vs) b)) (λ e. (length b < length vs) × (e ≡ Tight (length vs)) × (a ≡ b))
+
+-- no sheet was read into the room
+abbrev pub Blank : Room → Type 0
+Blank room =
+    (room.places ≡ replicate 128 (record { x = pos 0; y = pos 0 })) × (room.crossings ≡ replicate 496 0) × (room.turns ≡ replicate 2024 Left)

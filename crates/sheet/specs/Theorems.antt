@@ -8,7 +8,7 @@ use Rattle.sheet.specs.Sheets.{Answers, Lists, Others, Sheet, Value, due, limit,
 use Rattle.sheet.specs.Triples.{triple_at}
 use Rattle.sheet.specs.declared.Kind.{Kind}
 use Rattle.sheet.specs.declared.Kind.TheVariants.{Table}
-use Rattle.sheet.specs.declared.entries.Triple.{Triple}
+use Rattle.sheet.specs.declared.spots.Triple.{Triple}
 
 -- a text has one answer, and leaves the lists in one way
 abbrev pub OneAnswer : Type 0

@@ -1,7 +1,6 @@
 -- The triples of a table, in rising order: first marks are compared, then second ones, then third ones.
-use Rattle.std.specs.Prelude.{◌≡◌, ℕ, zero, suc, ◌+◌, ◌<◌, cond, nat_lt}
-use Rattle.sheet.specs.declared.entries.Spot.{Spot}
-use Rattle.sheet.specs.declared.entries.Triple.{Triple}
+use Rattle.std.specs.Prelude.{ℕ, zero, suc, ◌+◌, cond, nat_lt}
+use Rattle.sheet.specs.declared.spots.Triple.{Triple}
 
 -- the triple that follows i < j < k, of the marks below n
 abbrev pub after : ℕ → Triple → Triple
@@ -13,8 +12,3 @@ after n t =
 abbrev pub triple_at : ℕ → ℕ → Triple
 triple_at n zero = record { i = 0; j = 1; k = 2 }
 triple_at n (suc at) = after n (triple_at n at)
-
--- the triple belongs to its line
-pub record Placed (s : Spot) : Type 0 where
-  pub low : s.at < 4096
-  pub here : s.triple ≡ triple_at s.count s.at

@@ -1,13 +1,15 @@
 -- Crossings, and turns by their triples. Assumes nothing.
-use Rattle.std.specs.Prelude.{◌≡◌, ℕ, zero, suc, ◌+◌, ◌*◌, ◌/◌, ◌<◌, ◌≤◌, Bool, true, false, cond, ◌≢◌, List, [], ◌∷◌, ◌++◌, drop, decimal, MatchBool, ◌==◌, nat_lt, refl}
+use Rattle.std.specs.Prelude.{◌≡◌, ℕ, zero, suc, ◌+◌, ◌*◌, ◌/◌, ◌<◌, ◌≤◌, Bool, true, false, cond, ◌≢◌, List, [], ◌∷◌, ◌++◌, drop, decimal, MatchBool, ◌==◌, nat_eq, nat_lt, Option, Some, None, refl}
+use Rattle.std.specs.Bool.{then_some}
+use Rattle.std.specs.Option.{option_eq}
 use Rattle.std.proofs.Common.{sym, ap, subst, ◌∙◌, mul-le-mul, arith, eqb-true}
 use Rattle.std.proofs.lemmas.Bool.{eqb-false}
 use Rattle.std.proofs.lemmas.Fmt.{decimal_injective}
-use Rattle.sheet.specs.Fields.{Six, Lacks}
+use Rattle.sheet.specs.Fields.{Six, Lacks, Says}
 use Rattle.sheet.specs.Shapes.{Parted, side, spelled, turning}
 use Rattle.sheet.specs.Sheets.{crossings, sixes, turn_line}
 use Rattle.sheet.specs.Triples.{after, triple_at}
-use Rattle.sheet.specs.declared.entries.Triple.{Triple}
+use Rattle.sheet.specs.declared.spots.Triple.{Triple}
 use Rattle.cc.specs.declared.Turn.{Turn}
 use Rattle.cc.specs.declared.Turn.TheVariants.{Left, Right}
 use Rattle.sheet.specs.FieldsLemmas.{decimal_lacks}
@@ -53,9 +55,10 @@ pub triple_rises : (n at : ℕ) → Rises (triple_at n at) (at + 2)
 triple_rises n zero = record { ij = omega arith; jk = omega arith; under = omega arith }
 triple_rises n (suc at) = subst (Rises (triple_at n (suc at))) (omega arith) (rises_after n (triple_at n at) (at + 2) (triple_rises n at))
 
--- a field that says m is the number n, or is not
-pub says_by : (bs : List ℕ) (m n : ℕ) → Six m × (bs ≡ decimal m) → MatchBool (m == n) (Six n × (bs ≡ decimal n)) (Six n → bs ≢ decimal n)
-says_by bs m n told = go (m == n) refl
+-- a field says the number n, or does not
+pub says_number : (bs : List ℕ) (r : Option ℕ) (n : ℕ) → Says Six decimal bs r → MatchBool (option_eq nat_eq r (Some n)) (Six n × (bs ≡ decimal n)) (Six n → bs ≢ decimal n)
+says_number bs None n none = none n
+says_number bs (Some m) n told = go (m == n) refl
   where
     go : (b : Bool) → (m == n) ≡ b → MatchBool b (Six n × (bs ≡ decimal n)) (Six n → bs ≢ decimal n)
     go true e = subst (λ k. Six k × (bs ≡ decimal k)) (eqb-true m n e) told
@@ -73,6 +76,11 @@ same_turn bs i j k u t v is six e =
     let at_j = cut_unique 9 j _ (decimal t.j) _ is.0.1 p.1 at_i.1 in
     let at_k = cut_unique 9 k _ (decimal t.k) _ is.0.2 p.2 at_j.1 in
     (at_i.0, at_j.0, at_k.0)
+
+-- the turn of a line whose fields are those of the triple, or are not
+pub told_turn : (bs i j k : List ℕ) (u : Turn) (t : Triple) (b : Bool) → Parted (turning i j k u) × (bs ≡ spelled (turning i j k u)) → MatchBool b (sixes t × (i ≡ decimal t.i) × (j ≡ decimal t.j) × (k ≡ decimal t.k)) (sixes t → i ≡ decimal t.i → j ≡ decimal t.j → k ≡ decimal t.k → ⊥) → Says (λ _. sixes t) (turn_line t) bs (then_some b u)
+told_turn bs i j k u t true is h = (h.0, is.1 ∙ (λ z. spelled (turning (h.1 z) (h.2 z) (h.3 z) u)))
+told_turn bs i j k u t false is none = λ v six e. let same = same_turn bs i j k u t v is six e in none six same.0 same.1 same.2
 
 pub pairs_few : (n m : ℕ) → n ≤ 32 → m ≤ 31 → n * m / 2 ≤ 496
 pairs_few n m h k = let p : n * m ≤ 32 * 31 = mul-le-mul h k in omega arith

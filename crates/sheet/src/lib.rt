@@ -7,19 +7,24 @@
 
 mod entries;
 mod lines;
-mod numbers;
+pub mod numbers;
+mod rooms;
+mod spots;
 
-ghost use Rattle.std.specs.Prelude.{◌≡◌, ◌<◌, ◌≤◌, length, MatchBool, MatchResult};
-ghost use Rattle.sheet.specs.Forms.{Judged};
-ghost use Rattle.sheet.specs.Sheets.{Answers, Opens, Unopened, heads, limit, lists};
+ghost use Rattle.std.specs.Prelude.{◌≡◌, ◌<◌, ◌≤◌, [], ◌∷◌, ◌++◌, drop, length, Some, MatchBool, MatchResult};
+ghost use Rattle.sheet.specs.Fields.{Says, Six};
+ghost use Rattle.sheet.specs.Shapes.{Lettered, letter};
+ghost use Rattle.sheet.specs.Sheets.{Answers, Copied, Opens, Unopened, due, heads, limit, lists};
 ghost use Rattle.sheet.specs.Theorems.{AllTriples, EveryTable, FirstLine, OneAnswer, RoundTrip, ShortEnough};
 
 use cc::Turn;
 use cc::faults::Fault;
-use entries::fill;
 use lines::{Line, formed};
 use models::places::Place;
-use numbers::{cut, number};
+use numbers::{cut, six_digits};
+pub use rooms::{Room, Values};
+use std::error::Error;
+use std::fmt;
 
 // What a sheet tells: its letter is P, W or T.
 #[derive(Clone, Copy, PartialEq, Eq, Debug)]
@@ -29,35 +34,90 @@ pub enum Kind {
     Table,
 }
 
-// The greatest count that a sheet of the kind may have.
-fn most(kind: Kind) -> usize
-    ensures { result ≡ limit kind }
-{
-    match kind {
-        Kind::Points => 128,
-        Kind::Network => 32,
-        Kind::Table => 24,
+impl Kind {
+    // The greatest count that a sheet of the kind may have.
+    pub fn limit(self) -> usize
+        ensures limit { result ≡ limit self }
+    {
+        match self {
+            Kind::Points => 128,
+            Kind::Network => 32,
+            Kind::Table => 24,
+        }
+    }
+
+    // How many lines follow the head in a sheet of so many marks: one for each mark, for each pair, or for each triple.
+    // Where the count is beyond the limit, any number.
+    pub fn due(self, count: usize) -> usize
+        ensures due { count ≤ limit self → result ≡ due self count }
+    {
+        let pairs = count.saturating_mul(count.saturating_sub(1));
+        match self {
+            Kind::Points => count,
+            Kind::Network => pairs / 2,
+            Kind::Table => pairs.saturating_mul(count.saturating_sub(2)) / 6,
+        }
     }
 }
 
-// The kind and the count of a head, from its line without the byte 10.
-fn head(bytes: &[u8]) -> Result<(Kind, usize), Fault>
-    ensures { Judged heads 0 1 bytes.now result }
-{
-    let Some(line) = formed(bytes) else {
-        return Err(Fault::Torn(1));
-    };
-    let Line::Head { kind, count } = line else {
-        return Err(Fault::Torn(1));
-    };
-    let Some(n) = number(count) else {
-        return Err(Fault::Torn(1));
-    };
-    if n <= most(kind) {
-        Ok((kind, n))
-    } else {
-        Err(Fault::Outsize(1))
+// A letter of no kind.
+#[derive(Clone, Copy, PartialEq, Eq, Debug)]
+pub struct UnknownLetter(pub u8);
+
+impl TryFrom<u8> for Kind {
+    type Error = UnknownLetter;
+
+    ghost try_from_gives = { Lettered };
+
+    fn try_from(letter: u8) -> Result<Kind, UnknownLetter> {
+        match letter {
+            b'P' => Ok(Kind::Points),
+            b'W' => Ok(Kind::Network),
+            b'T' => Ok(Kind::Table),
+            _ => Err(UnknownLetter(letter)),
+        }
     }
+}
+
+// Its letter.
+impl fmt::Display for Kind {
+    ghost output = { λ kind. Some (letter kind ∷ []) };
+
+    fn fmt<W: fmt::Write>(&self, f: &mut fmt::Formatter<W>) -> fmt::Result {
+        f.write_str(match self {
+            Kind::Points => "P",
+            Kind::Network => "W",
+            Kind::Table => "T",
+        })
+    }
+}
+
+impl fmt::Display for UnknownLetter {
+    fn fmt<W: fmt::Write>(&self, f: &mut fmt::Formatter<W>) -> fmt::Result {
+        write!(f, "no kind of sheet has the letter {}", self.0)
+    }
+}
+
+impl Error for UnknownLetter {}
+
+// What a sheet's first line tells.
+#[derive(Clone, Copy)]
+struct Head {
+    kind: Kind,
+    count: usize,
+}
+
+// The head that the line says, without the byte 10 at its end.
+fn head_told(line: &[u8]) -> Option<Head>
+    ensures { Says (λ h. Six h.count) (λ h. heads.line 0 (h.kind, h.count)) line.now result }
+{
+    let Line::Head { kind, count } = formed(line)? else {
+        return None;
+    };
+    Some(Head {
+        kind,
+        count: six_digits(count)?,
+    })
 }
 
 // Whether the text is no longer than a sheet may be.
@@ -67,18 +127,33 @@ fn is_short(text: &[u8]) -> bool
     text.len() <= 32_768
 }
 
-// The kind and the count of a text's head, and the lines after it.
-fn opening<'a>(text: &'a [u8]) -> Result<(Kind, usize, &'a [u8]), Fault>
-    ensures { MatchResult result (λ o. Opens text.now o.0 o.1 o.2.now) (λ e. Unopened text.now e) }
+// A text's head, and the lines after it.
+fn opening(text: &[u8]) -> Result<(Head, &[u8]), Fault>
+    ensures { MatchResult result (λ o. Opens text.now o.0.kind o.0.count o.1.now) (λ e. Unopened text.now e) }
 {
     if !is_short(text) {
         return Err(Fault::Outsize(0));
     }
-    let Some((bytes, rest)) = cut(text, b'\n') else {
-        return Err(Fault::Torn(1));
-    };
-    let (kind, n) = head(bytes)?;
-    Ok((kind, n, rest))
+    let torn = Fault::Torn(1);
+    let (line, rest) = cut(text, b'\n').ok_or(torn)?;
+    let head = head_told(line).ok_or(torn)?;
+    if head.count <= head.kind.limit() {
+        Ok((head, rest))
+    } else {
+        Err(Fault::Outsize(1))
+    }
+}
+
+// Copies the values to the front of the list; a list that is too short stays as it is.
+fn copy_front<T: Copy>(values: &[T], list: &mut [T]) -> Result<(), Fault>
+    ensures { Copied values.now list.old list.new result }
+{
+    let n = values.len();
+    if list.len() < n {
+        return Err(Fault::Tight(n));
+    }
+    list[..n].copy_from_slice(values);
+    Ok(())
 }
 
 // Reads a sheet into the front of the list of its kind, and answers its kind and count; a refused text leaves the three lists as they are.
@@ -90,28 +165,27 @@ pub fn read(
 ) -> Result<(Kind, usize), Fault>
     ensures answers { Answers text.now (lists places.old crossings.old turns.old) (lists places.new crossings.new turns.new) result }
 {
-    let (kind, n, rest) = opening(text)?;
-    match kind {
-        Kind::Points => {
-            let mut all = [Place { x: 0, y: 0 }; 128];
-            fill(rest, n, n, &mut all, places)?;
+    let mut room = Room::new();
+    match room.read(text)? {
+        Values::Points(values) => {
+            copy_front(values, places)?;
+            Ok((Kind::Points, values.len()))
         }
-        Kind::Network => {
-            let mut all = [0; 496];
-            fill(rest, n, n * n.saturating_sub(1) / 2, &mut all, crossings)?;
+        Values::Network {
+            wires,
+            crossings: values,
+        } => {
+            copy_front(values, crossings)?;
+            Ok((Kind::Network, wires))
         }
-        Kind::Table => {
-            let mut all = [Turn::Left; 2024];
-            fill(
-                rest,
-                n,
-                n * n.saturating_sub(1) * n.saturating_sub(2) / 6,
-                &mut all,
-                turns,
-            )?;
+        Values::Table {
+            marks,
+            turns: values,
+        } => {
+            copy_front(values, turns)?;
+            Ok((Kind::Table, marks))
         }
     }
-    Ok((kind, n))
 }
 
 // What `read` promises leaves one answer for each text and its lists, and the line of a refusal is the first at which the text stops being the
@@ -135,6 +209,7 @@ pub fn round_trip_stands()
 
 #[cfg(test)]
 mod tests {
+    use super::numbers::number;
     use super::*;
     use std::test::Fail;
 
@@ -159,5 +234,63 @@ mod tests {
         );
         assert_eq!(rt; answer, Err(Fault::Outsize(4)));
         assert_eq!(rt; crossings, [7, 7, 7]);
+    }
+
+    #[test]
+    fn a_room_lends_values(rt: HostRuntime) -> Result<(), Fail> {
+        let mut room = Room::new();
+        let points = room.read(b"P\t2\nm\t-1\t5\nm\t0\t-10000\n")?;
+        assert!(rt;
+            matches!(
+                points,
+                Values::Points([Place { x: -1, y: 5 }, Place { x: 0, y: -10_000 }])
+            )
+        );
+        let network = room.read(b"W\t2\nc\t0\n")?;
+        assert!(rt;
+            matches!(
+                network,
+                Values::Network {
+                    wires: 2,
+                    crossings: [0]
+                }
+            )
+        );
+        let table = room.read(b"T\t3\nt\t0\t1\t2\tR\n")?;
+        assert!(rt;
+            matches!(
+                table,
+                Values::Table {
+                    marks: 3,
+                    turns: [Turn::Right]
+                }
+            )
+        );
+        assert!(rt; matches!(room.read(b"T\t3\n"), Err(Fault::Miscounted(2))));
+        Ok(())
+    }
+
+    #[test]
+    fn a_kind_has_its_letter(rt: HostRuntime) -> Result<(), Fail> {
+        assert_eq!(rt; Kind::try_from(b'W'), Ok(Kind::Network));
+        assert_eq!(rt; Kind::try_from(b'w'), Err(UnknownLetter(b'w')));
+        assert_eq!(rt; format!(in rt.alloc(); "{}", Kind::Table)?.as_str(), "T");
+        assert_eq!(rt; Kind::Table.due(Kind::Table.limit()), 2024);
+        Ok(())
+    }
+
+    #[test]
+    fn a_number_is_cut_off(rt: HostRuntime) {
+        assert!(rt; matches!(cut(b"12 7", b' '), Some((b"12", b"7"))));
+        assert!(rt; cut(b"12", b' ').is_none());
+        assert_eq!(rt;
+            number(b"18446744073709551615", usize::MAX),
+            Some(usize::MAX)
+        );
+        assert_eq!(rt; number(b"18446744073709551616", usize::MAX), None);
+        assert_eq!(rt; number(b"7", 6), None);
+        assert_eq!(rt; number(b"+7", 7), None);
+        assert_eq!(rt; number(b"07", 7), None);
+        assert_eq!(rt; number(b"", 7), None);
     }
 }

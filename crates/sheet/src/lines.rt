@@ -32,18 +32,19 @@ pub(crate) enum Line<'a> {
 }
 
 // The turn that L or R tells.
+// stays a function: `TryFrom` for cc's `Turn` could stand in cc alone, which knows of no letters
 fn turn_of(letter: u8) -> Option<Turn>
     ensures { MatchOption result ((letter ≢ 76) × (letter ≢ 82)) (λ turn. letter ≡ side turn) }
 {
-    match char::from(letter) {
-        'L' => Some(Turn::Left),
-        'R' => Some(Turn::Right),
+    match letter {
+        b'L' => Some(Turn::Left),
+        b'R' => Some(Turn::Right),
         _ => None,
     }
 }
 
 // The fields of a turn's line, after its letter and the tab.
-fn turning_fields<'a>(fields: &'a [u8]) -> Option<Line<'a>>
+fn turning_fields(fields: &[u8]) -> Option<Line<'_>>
     ensures { Says Parted spelled (116 ∷ 9 ∷ fields.now) (option_map shape result) }
 {
     let (i, after_i) = cut(fields, b'\t')?;
@@ -55,31 +56,22 @@ fn turning_fields<'a>(fields: &'a [u8]) -> Option<Line<'a>>
 }
 
 // The line that the bytes are, without the byte 10 at its end; none where they have no line's form.
-pub(crate) fn formed<'a>(bytes: &'a [u8]) -> Option<Line<'a>>
+pub(crate) fn formed(bytes: &[u8]) -> Option<Line<'_>>
     ensures { Says Parted spelled bytes.now (option_map shape result) }
 {
     let [letter, b'\t', fields @ ..] = bytes else {
         return None;
     };
-    match char::from(*letter) {
-        'P' => Some(Line::Head {
-            kind: Kind::Points,
-            count: fields,
-        }),
-        'W' => Some(Line::Head {
-            kind: Kind::Network,
-            count: fields,
-        }),
-        'T' => Some(Line::Head {
-            kind: Kind::Table,
-            count: fields,
-        }),
-        'm' => {
+    match *letter {
+        b'm' => {
             let (x, y) = cut(fields, b'\t')?;
             Some(Line::Mark { x, y })
         }
-        'c' => Some(Line::Crossing { place: fields }),
-        't' => turning_fields(fields),
-        _ => None,
+        b'c' => Some(Line::Crossing { place: fields }),
+        b't' => turning_fields(fields),
+        letter => Some(Line::Head {
+            kind: Kind::try_from(letter).ok()?,
+            count: fields,
+        }),
     }
 }

@@ -1,55 +1,54 @@
 //! The fields of a line, and the numbers that they write.
 
-ghost use Rattle.std.specs.Prelude.{◌≡◌, ◌<◌, ◌≤◌, ◌∷◌, ◌++◌, length, pos, neg_ℤ, decimal, MatchBool, MatchOption, ◌≢◌};
-ghost use Rattle.std.specs.Str.Parse.{AllDigits, digits_value};
+ghost use Rattle.std.specs.Prelude.{◌≡◌, ◌<◌, ◌≤◌, ◌∷◌, ◌++◌, length, decimal, slice_index, pos, neg_ℤ, ◌⊎◌, MatchBool, MatchOption, ◌≢◌};
 ghost use Rattle.std.specs.Fmt.{signed_decimal};
-ghost use Rattle.sheet.specs.Fields.{Six, SixSigned, Lacks, Says};
+ghost use Rattle.sheet.specs.Fields.{Lacks, Says, Six, SixSigned, UpTo};
+
+// The greatest number of six digits.
+const SIX_NINES: usize = 999_999;
 
 // The bytes before the first `mark`, and those after it.
-pub(crate) fn cut(bytes: &[u8], mark: u8) -> Option<(&[u8], &[u8])>
-    ensures { MatchOption result (Lacks mark bytes.now) (λ p. Lacks mark p.0.now × (bytes.now ≡ p.0.now ++ mark ∷ p.1.now)) }
+pub fn cut(bytes: &[u8], mark: u8) -> Option<(&[u8], &[u8])>
+    ensures parts { MatchOption result (Lacks mark bytes.now) (λ p. Lacks mark p.0.now × (bytes.now ≡ p.0.now ++ mark ∷ p.1.now)) }
 {
-    for (i, b) in bytes.iter().enumerate() {
-        if *b == mark {
-            return Some((&bytes[0..i], &bytes[i + 1..]));
-        }
+    let at = bytes.iter().position(|b| *b == mark)?;
+    Some((&bytes[..at], &bytes[at + 1..]))
+}
+
+// Whether the bytes begin with a sign that `parse` would take, or with a needless zero.
+fn is_adorned(bytes: &[u8]) -> bool
+    ensures { MatchBool result ((slice_index bytes.now 0 ≡ 43) ⊎ ((slice_index bytes.now 0 ≡ 48) × (1 < length bytes.now))) ((slice_index bytes.now 0 ≢ 43) × (slice_index bytes.now 0 ≡ 48 → length bytes.now ≤ 1)) }
+{
+    matches!(bytes, [b'+', ..] | [b'0', _, ..])
+}
+
+// The number, of at most `greatest`, that the bytes write: digits without a needless zero in front.
+pub fn number(bytes: &[u8], greatest: usize) -> Option<usize>
+    ensures number { Says (UpTo greatest) decimal bytes.now result }
+{
+    if is_adorned(bytes) {
+        return None;
     }
-    None
+    let text = str::from_utf8(bytes).ok()?;
+    let n = text.parse::<usize>().ok()?;
+    (n <= greatest).then_some(n)
 }
 
-// The number that at most six digits write.
-fn digits(bytes: &[u8]) -> Option<usize>
-    requires { length bytes.now ≤ 6 }
-    ensures { MatchOption result (AllDigits 10 bytes.now → ⊥) (λ n. AllDigits 10 bytes.now × (n ≡ digits_value 10 bytes.now)) }
-{
-    let mut n = 0;
-    for b in bytes {
-        n = n * 10 + char::from(*b).to_digit(10)? as usize;
-    }
-    Some(n)
-}
-
-// Whether the digits that begin so have a needless zero in front.
-fn needless_zero(first: u8, rest: &[u8]) -> bool
-    ensures { MatchBool result ((first ≡ 48) × (0 < length rest.now)) (first ≡ 48 → length rest.now ≡ 0) }
-{
-    char::from(first) == '0' && !rest.is_empty()
-}
-
-// A count, a crossing or a mark: one to six digits, without a needless zero in front.
-pub(crate) fn number(bytes: &[u8]) -> Option<usize>
+// A count, a crossing or a mark: one to six digits.
+pub(crate) fn six_digits(bytes: &[u8]) -> Option<usize>
     ensures { Says Six decimal bytes.now result }
 {
-    let [first, rest @ ..] = bytes else {
-        return None;
-    };
-    if rest.len() > 5 {
-        return None;
+    number(bytes, SIX_NINES)
+}
+
+// A coordinate: a number, or a minus and a number above 0.
+pub(crate) fn coordinate(bytes: &[u8]) -> Option<i32>
+    ensures { Says SixSigned signed_decimal bytes.now result }
+{
+    match bytes {
+        [b'-', digits @ ..] => negated(six_digits(digits)?),
+        _ => Some(six_digits(bytes)? as i32),
     }
-    if needless_zero(*first, rest) {
-        return None;
-    }
-    digits(bytes)
 }
 
 // The number below 0, or none for 0.
@@ -57,30 +56,12 @@ fn negated(n: usize) -> Option<i32>
     requires { Six n }
     ensures { MatchOption result (n ≡ 0) (λ z. (0 < n) × (z ≡ neg_ℤ (pos n))) }
 {
-    match n {
-        0 => None,
-        n => Some(-(n as i32)),
-    }
-}
-
-// A coordinate: a number, or a minus and a number above 0.
-pub(crate) fn coordinate(bytes: &[u8]) -> Option<i32>
-    ensures { Says SixSigned signed_decimal bytes.now result }
-{
-    if let [first, rest @ ..] = bytes {
-        if char::from(*first) == '-' {
-            return negated(number(rest)?);
-        }
-    }
-    Some(number(bytes)? as i32)
+    (n > 0).then_some(-(n as i32))
 }
 
 // Whether the field is the number n.
 pub(crate) fn is_number(bytes: &[u8], n: usize) -> bool
     ensures { MatchBool result (Six n × (bytes.now ≡ decimal n)) (Six n → bytes.now ≢ decimal n) }
 {
-    match number(bytes) {
-        Some(m) => m == n,
-        None => false,
-    }
+    six_digits(bytes) == Some(n)
 }

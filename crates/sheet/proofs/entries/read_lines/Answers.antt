@@ -1,37 +1,40 @@
-use Rattle.std.proofs.Common.{◌+◌, length, sym, ap, ◌∙◌, subst, add-one, arith}
+use Rattle.std.proofs.Common.{◌≡◌, ◌+◌, Ok, Err, length, ap, ◌∙◌, subst, sym, arith}
 use Rattle.std.proofs.lemmas.List.{length-take-le, nil_from_length}
 use Rattle.std.proofs.lemmas.Result.{MatchResult-weaker, err_from_is_err_and}
-use Rattle.sheet.specs.Forms.{Stops}
-use Rattle.sheet.specs.Triples.{after, triple_at}
-use Rattle.sheet.proofs.Forms.{stop_missed, stop_judged, stop_surplus, upto_set, upto_all}
-use Rattle.sheet.specs.Turnings.{Rises, triple_rises}
+use Rattle.cc.specs.declared.faults.Fault.TheVariants.{Miscounted}
+use Rattle.sheet.specs.Forms.{Missed, Stops}
+use Rattle.sheet.proofs.Forms.{judged_at, stop_missed, stop_judged, stop_surplus, upto_set, upto_all}
 use Rattle.sheet.proofs.entries.read_lines.Goals as goal
 
-pub returns-in_err-bytes : goal.returns-in_err-bytes
-returns-in_err-bytes g c =
+pub returns-in_err-line : goal.returns-in_err-line
+returns-in_err-line g c =
     let p = err_from_is_err_and c.from_residual.result c.from_residual.ensures.1 in
-    rw (p.1, p.2) (stop_missed _ _ _ _ _ c.loop-at.invariant.0 _ (length-take-le _ _ (omega arith)) c.loop-at-test.true _ c.in_err-bytes.ensures)
+    let number : c.number.result ≡ c.loop-entry.entry-index + 2 = c.number.ensures.number ∙ ap (λ n. n + 2) c.loop-entry.invariant.at in
+    rw (p.1, p.2)
+    (stop_missed _ _ _ _ _ c.loop-entry.invariant.read _ (length-take-le _ _ (omega arith)) (omega arith) _ (subst (λ n. Missed c.loop-entry.rest.now n c.in_err-line.field-0.0) number c.in_err-line.ensures))
 
-pub returns-in_err-list : goal.returns-in_err-list
-returns-in_err-list g c =
-    let p = err_from_is_err_and c.from_residual-in_err-list.result c.from_residual-in_err-list.ensures.1 in
-    rw (p.1, p.2) (stop_judged _ _ _ _ _ c.loop-at.invariant.0 _ (length-take-le _ _ (omega arith)) (g.met.E.Entry.whole c.args.count c.loop-at.at) c.loop-at-test.true _ _ c.in_ok-bytes.ensures _ c.in_err-list.ensures)
+pub returns-in_err-entry : goal.returns-in_err-entry
+returns-in_err-entry g c =
+    let p = err_from_is_err_and c.from_residual-in_err-entry.result c.from_residual-in_err-entry.ensures.1 in
+    let judged = judged_at g.E.Entry.form _ _ _ _ c.in_ok-line.line.now (Err c.in_err-entry.field-0.0) c.loop-entry.invariant.count c.loop-entry.invariant.at c.in_err-entry.ensures in
+    rw (p.1, p.2)
+    (stop_judged _ _ _ _ _ c.loop-entry.invariant.read _ (length-take-le _ _ (omega arith)) (g.met.E.Entry.whole c.args.count c.loop-entry.entry-index) (omega arith) _ _ c.in_ok-line.ensures _ judged)
 
-pub following-triple-requires : goal.following-triple-requires
-following-triple-requires g c =
-    let rises = subst (λ t. Rises t (c.loop-at.at + 2)) (sym c.loop-at.invariant.1) (triple_rises c.args.count c.loop-at.at) in
-    (omega arith, (omega arith, omega arith))
-
-pub loop-at-preserved : goal.loop-at-preserved
-loop-at-preserved g c = (
-  upto_set _ _ c.loop-at.list c.loop-at.at _ _ _ _ (omega arith) c.loop-at.invariant.0 c.in_ok-list.ensures c.in_ok-bytes.ensures.1,
-  c.following-triple.ensures ∙ ap (after c.args.count) c.loop-at.invariant.1 ∙ ap (triple_at c.args.count) (sym (add-one c.loop-at.at)),
-)
+pub loop-entry-preserved : goal.loop-entry-preserved
+loop-entry-preserved g c =
+    let judged = judged_at g.E.Entry.form _ _ _ _ _ (Ok c.in_ok-entry.field-0) c.loop-entry.invariant.count c.loop-entry.invariant.at c.in_ok-entry.ensures in
+    record {
+      count = c.following-spot.ensures.following.0 ∙ c.loop-entry.invariant.count;
+      at = c.following-spot.ensures.following.1 ∙ ap (λ n. n + 1) c.loop-entry.invariant.at;
+      read = upto_set _ _ c.loop-entry.list c.loop-entry.entry-index _ _ _ _ (omega arith) c.loop-entry.invariant.read judged c.in_ok-line.ensures.1;
+    }
 
 pub returns : goal.returns
 returns g c =
+    let many = length c.args.list.now in
+    let number : c.number-2.result ≡ many + 2 = omega (arith, c.number-2.ensures.number, c.loop-entry.invariant.at) in
     MatchResult-weaker c.at_end.result c.at_end.ensures
-    (λ _ none. upto_all _ _ _ c.loop-at.at c.args.due _ (omega arith) (nil_from_length _ none) c.loop-at.invariant.0)
+    (λ _ none. upto_all _ _ _ c.loop-entry.entry-index _ (omega arith) (nil_from_length _ none) c.loop-entry.invariant.read)
     (λ e more.
-    subst (Stops (g.E.Entry.form c.args.count) c.args.due c.args.text.now) (sym more.1)
-    (stop_surplus _ _ _ _ _ c.loop-at.invariant.0 c.loop-at.at (length-take-le _ _ (omega arith)) (omega arith) (λ nil. omega (arith, more.0, ap length nil))))
+    subst (Stops (g.E.Entry.form c.args.count) many c.args.text.now) (sym (more.1 ∙ ap Miscounted number))
+    (stop_surplus _ _ many _ _ c.loop-entry.invariant.read c.loop-entry.entry-index (length-take-le _ _ (omega arith)) (omega arith) (λ nil. omega (arith, more.0, ap length nil))))

@@ -1,9 +1,9 @@
-use Rattle.std.proofs.Common.{◌≡◌, ◌-◌, ◌∷◌, length, take, drop, sym, ◌∙◌, arith, ltb-false, eqb-true}
+use Rattle.std.proofs.Common.{◌≡◌, ◌-◌, ◌∷◌, length, take, drop, arith}
 use Rattle.sheet.specs.Cuts.{only_mark, cut_none, lettered}
 use Rattle.sheet.proofs.lines.formed.Goals as goal
 
-pub returns-in_err-x-in-m : goal.returns-in_err-x-in-m
-returns-in_err-x-in-m c =
+pub returns-in_err-x-in-109 : goal.returns-in_err-x-in-109
+returns-in_err-x-in-109 c =
     let bytes = c.args.bytes.now in
-    let begins : bytes ≡ 109 ∷ 9 ∷ take (length bytes - 2) (drop 2 bytes) = lettered _ 109 (omega (arith, ltb-false)) (sym c.from.ensures ∙ c.in-m.is) (omega (arith, eqb-true)) in
-    rw (c.from_residual.ensures, begins) (only_mark _ (λ x y l e. cut_none _ x y c.in_err-x-in-m.ensures e))
+    let begins : bytes ≡ 109 ∷ 9 ∷ take (length bytes - 2) (drop 2 bytes) = lettered _ 109 (omega arith) c.in-109.is (omega arith) in
+    rw (c.from_residual.ensures, begins) (only_mark _ (λ x y l e. cut_none _ x y c.in_err-x-in-109.ensures.parts e))

@@ -1,5 +1,5 @@
-use Rattle.sheet.specs.Turnings.{says_by}
+use Rattle.sheet.specs.Turnings.{says_number}
 use Rattle.sheet.proofs.numbers.is_number.Goals as goal
 
-pub returns-in-Some : goal.returns-in-Some
-returns-in-Some c = says_by _ _ _ c.in-Some.ensures
+pub returns : goal.returns
+returns c = rw c.eq.ensures (says_number _ c.six_digits.result c.args.n c.six_digits.ensures)

@@ -1,22 +1,23 @@
-use Rattle.std.proofs.Common.{◌≡◌, ◌<◌, ◌≤◌, length, get_or, arith, length-drop, length-take, ltb-false, ltb-true}
-use Rattle.sheet.specs.FieldsLemmas.{written_some, written_six, written_zero, says_number}
+use Rattle.std.proofs.Common.{arith}
+use Rattle.sheet.proofs.Digits.{not_parsed, number_utf8, parsed_number, unadorned}
+use Rattle.sheet.proofs.Results.{none_err, some_ok}
 use Rattle.sheet.proofs.numbers.number.Goals as goal
 
-pub returns-in_default : goal.returns-in_default
-returns-in_default c = λ v six is. omega (arith, ltb-true, written_some v six _ is)
+pub returns-then-is_adorned : goal.returns-then-is_adorned
+returns-then-is_adorned c =
+    record { number = λ v le is. unadorned v (omega (arith, c.ranges.greatest)) _ is c.if-is_adorned.ensures }
 
-pub returns-then-rest-gt5 : goal.returns-then-rest-gt5
-returns-then-rest-gt5 c = λ v six is. omega (arith, written_six v six _ is, simp (length-take, length-drop) at c.if-rest-gt5.true)
+pub returns-in_err-text : goal.returns-in_err-text
+returns-in_err-text c =
+    rw c.from_residual.ensures
+    (record { number = λ v le is. (none_err _ _ c.from_utf8.result _ c.ok.ensures.value c.in_err-text.was c.from_utf8.ensures.cases).1.0 (number_utf8 v (omega (arith, c.ranges.greatest)) _ is) })
 
-pub returns-then-needless_zero : goal.returns-then-needless_zero
-returns-then-needless_zero c =
-    let told = c.if-needless_zero.ensures in
-    λ v six is. omega (arith, written_zero v six _ is told.0, simp (length-take, length-drop) at told.1)
+pub returns-in_err-n : goal.returns-in_err-n
+returns-in_err-n c =
+    rw c.from_residual-in_err-n.ensures
+    (record { number = not_parsed c.args.greatest (omega (arith, c.ranges.greatest)) _ _ (some_ok _ _ c.from_utf8.result c.in_ok-text.text c.in_ok-text.ensures.value c.from_utf8.ensures.cases).0 c.if-is_adorned.ensures _ c.parse.ensures.value.0 _ c.ok-2.ensures.value c.in_err-n.was })
 
 pub returns : goal.returns
 returns c =
-    let bs = c.args.bytes.now in
-    let some : 0 < length bs = omega (arith, ltb-false) in
-    let six : length bs ≤ 6 = omega (arith, simp (length-take, length-drop) at c.if-rest-gt5.false) in
-    let plain : get_or bs 0 0 ≡ 48 → length bs ≡ 1 = λ z. omega (arith, simp (length-take, length-drop) at (c.if-needless_zero.ensures z)) in
-    says_number bs _ some six plain c.digits.ensures
+    rw c.then_some.ensures
+    (record { number = parsed_number c.args.greatest (omega (arith, c.ranges.greatest)) _ _ (some_ok _ _ c.from_utf8.result c.in_ok-text.text c.in_ok-text.ensures.value c.from_utf8.ensures.cases).0 c.if-is_adorned.ensures _ c.parse.ensures.value.0 _ c.in_ok-n.ensures.value })

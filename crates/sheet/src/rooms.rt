@@ -1,0 +1,76 @@
+//! Room for the values of a sheet, and reading into it.
+
+ghost use Rattle.std.specs.Prelude.{◌≡◌, ◌≤◌, MatchResult};
+ghost use Rattle.sheet.specs.Sheets.{Blank, Declines, Lists, Tells};
+
+use super::entries::read_lines;
+use super::{Head, Kind, opening};
+use cc::Turn;
+use cc::faults::Fault;
+use models::places::Place;
+
+// The values of a sheet, and the count of its marks where it is not their number.
+#[derive(Clone, Copy)]
+pub enum Values<'a> {
+    Points(&'a [Place]),
+    Network {
+        wires: usize,
+        crossings: &'a [usize],
+    },
+    Table {
+        marks: usize,
+        turns: &'a [Turn],
+    },
+}
+
+// Room for the values of any one sheet.
+#[derive(Drop)]
+pub struct Room {
+    places: [Place; 128],
+    crossings: [usize; 496],
+    turns: [Turn; 2024],
+}
+
+impl Room {
+    // Room in which nothing was read: each place is 0, 0, each crossing 0, and each turn left.
+    pub fn new() -> Room
+        ensures blank { Blank result }
+    {
+        Room {
+            places: [Place { x: 0, y: 0 }; 128],
+            crossings: [0; 496],
+            turns: [Turn::Left; 2024],
+        }
+    }
+
+    // Reads a sheet, and lends its values. A text that is refused here is refused whatever the lists that `read` is given.
+    pub fn read(&mut self, text: &[u8]) -> Result<Values<'_>, Fault>
+        ensures told { MatchResult result (Tells text.now) (λ fault. (room : Lists) → Declines text.now room fault) }
+    {
+        let (Head { kind, count }, rest) = opening(text)?;
+        let due = kind.due(count);
+        match kind {
+            Kind::Points => {
+                let places = &mut self.places[..due];
+                read_lines(rest, count, places)?;
+                Ok(Values::Points(places))
+            }
+            Kind::Network => {
+                let crossings = &mut self.crossings[..due];
+                read_lines(rest, count, crossings)?;
+                Ok(Values::Network {
+                    wires: count,
+                    crossings,
+                })
+            }
+            Kind::Table => {
+                let turns = &mut self.turns[..due];
+                read_lines(rest, count, turns)?;
+                Ok(Values::Table {
+                    marks: count,
+                    turns,
+                })
+            }
+        }
+    }
+}
