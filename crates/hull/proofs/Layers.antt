@@ -1,5 +1,7 @@
 -- Peeling one outline after another off the marks.
-use Rattle.std.proofs.Common.{◌≡◌, ℕ, zero, suc, ◌+◌, ◌-◌, ◌<◌, ◌≤◌, Bool, true, false, T, ◌≢◌, ◌⊎◌, ◌↔◌, List, [], ◌∷◌, length, get_or, take, drop, set, sym, refl, ap, ◌∙◌, subst, inl, inr, add-zero, arith, length-drop, length-set, length-take-le, get_or-drop, get_or-set_other, get_or-take, get_or-set_same, ext_get_or}
+use Rattle.std.proofs.Common.{◌≡◌, ℕ, zero, suc, ◌+◌, ◌-◌, ◌<◌, ◌≤◌, Bool, true, false, T, ◌≢◌, ◌⊎◌, ◌↔◌, List, [], ◌∷◌, ◌++◌, length, get_or, take, drop, set, sym, refl, ap, ◌∙◌, subst, inl, inr, add-zero, arith, length-drop, length-set, length-take-le, get_or-drop, get_or-set_other, get_or-take, get_or-set_same, ext_get_or}
+use lib.ListN.{get_or-append}
+use Rattle.std.proofs.lemmas.List.{get_or-append_right}
 use Rattle.laws.specs.Systems.{Meaning, Lawful}
 use Rattle.laws.specs.Outlines.{Marks, Outline, none}
 use Rattle.laws.specs.Theorems.{of}
@@ -22,14 +24,12 @@ clear_at l a p e = ap (flagged (set l a false)) e ∙ go l a
     go (b ∷ l) zero = refl
     go (b ∷ l) (suc a) = go l a
 
--- the first i entries are cleared
-abbrev pub Cleared : List ℕ → List ℕ → ℕ → Type 0
-Cleared entries₀ entries i = ((p : ℕ) → p < i → get_or entries p 0 ≡ 0) × ((p : ℕ) → i ≤ p → get_or entries p 0 ≡ get_or entries₀ p 0)
-
-pub cleared_more : (entries₀ entries : List ℕ) (i : ℕ) → i < length entries → Cleared entries₀ entries i → Cleared entries₀ (set entries i 0) (i + 1)
-cleared_more entries₀ entries i h (zeros, rest) = (
-  λ p lt. elim (other p i) [ inl e ↦ set_at entries i 0 p h e | inr n ↦ get_or-set_other entries i p 0 0 n ∙ zeros p (omega arith) ],
-  λ p le. let n : p ≢ i = omega arith in get_or-set_other entries i p 0 0 n ∙ rest p (omega arith),
+-- the first n entries are cleared, and the others stay
+pub cleared : (entries front : List ℕ) (n : ℕ) → length front ≡ n → n ≤ length entries → ((p : ℕ) → p < n → get_or front p 0 ≡ 0)
+    → ((p : ℕ) → p < n → get_or (front ++ drop n entries) p 0 ≡ 0) × ((p : ℕ) → n ≤ p → get_or (front ++ drop n entries) p 0 ≡ get_or entries p 0)
+cleared entries front n long room zeros = (
+  λ p h. get_or-append front (drop n entries) 0 p (omega arith) ∙ zeros p h,
+  λ p h. get_or-append_right front (drop n entries) n p 0 long h ∙ get_or-drop n entries (p - n) 0 ∙ ap (λ i. get_or entries i 0) (omega arith),
 )
 
 -- the first i marks of the ring are off, and the others are as they were

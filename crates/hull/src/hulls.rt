@@ -1,14 +1,13 @@
 //! The dynamic hull.
 
-ghost use Rattle.std.specs.Prelude.{◌≡◌, ℕ, false, MatchResult};
-ghost use Rattle.runs.specs.Calls.{OneMore, Answers, add, drop, place, neighbours, outline, rounds};
+ghost use Rattle.std.specs.Prelude.{◌≡◌, ℕ, false};
+ghost use Rattle.runs.specs.Calls.{Answers, outline, rounds};
 ghost use Rattle.hull.specs.Rings.{listed};
 ghost use Rattle.hull.specs.Records.{held, Sound};
-ghost use Rattle.hull.specs.Replies.{added_answer, dropped_answer, placed_answer, neighbours_answer, list_answer};
+ghost use Rattle.hull.specs.Replies.{list_answer};
 ghost use Rattle.hull.specs.Soundness.{Sound-prop};
 ghost use Rattle.hull.specs.Words.{Census};
 
-use super::answers::{Added, Placed};
 use super::peeling::rounds_of;
 use super::records::HullState;
 use cc::CcSystem;
@@ -18,8 +17,8 @@ use cc::faults::Fault;
 // not declined until the next such drop.
 #[derive(Drop)]
 pub struct DynamicHull<S: CcSystem> {
-    system: S,
-    state: HullState,
+    pub(crate) system: S,
+    pub(crate) state: HullState,
     ghost sound: { Sound (S.CcSystem.meaning system) state.records (listed state.ring) } by { Sound-prop (S.CcSystem.meaning system) state.records (listed state.ring) },
 }
 
@@ -40,38 +39,6 @@ impl<S: CcSystem> DynamicHull<S> {
         ensures system { result ≡ self.system }
     {
         self.system
-    }
-
-    // Puts mark m in.
-    pub fn add(&mut self, m: usize) -> Result<Added, Fault>
-        ensures answer { Answers (S.CcSystem.meaning self.old.system) (held self.old.state.records) (add m) (added_answer result) }
-        ensures marks { MatchResult result (λ _. OneMore (held self.old.state.records) m (held self.new.state.records)) (λ _. self.new.state ≡ self.old.state) }
-        ensures system { self.new.system ≡ self.old.system }
-    {
-        self.state.add(&self.system, m)
-    }
-
-    // Takes mark m out.
-    pub fn drop(&mut self, m: usize) -> Result<usize, Fault>
-        ensures answer { Answers (S.CcSystem.meaning self.old.system) (held self.old.state.records) (drop m) (dropped_answer result) }
-        ensures marks { MatchResult result (λ _. OneMore (held self.new.state.records) m (held self.old.state.records)) (λ _. self.new.state ≡ self.old.state) }
-        ensures system { self.new.system ≡ self.old.system }
-    {
-        self.state.remove(&self.system, m)
-    }
-
-    // Where mark m stands.
-    pub fn place(&self, m: usize) -> Result<Placed, Fault>
-        ensures answer { Answers (S.CcSystem.meaning self.now.system) (held self.now.state.records) (place m) (placed_answer result) }
-    {
-        self.state.place(&self.system, m)
-    }
-
-    // The mark before m and the mark after it on the outline.
-    pub fn neighbours(&self, m: usize) -> Result<(usize, usize), Fault>
-        ensures answer { Answers (S.CcSystem.meaning self.now.system) (held self.now.state.records) (neighbours m) (neighbours_answer result) }
-    {
-        self.state.neighbours(&self.system, m)
     }
 
     // Writes the outline at the front of the list, from its lowest mark on; its length.
