@@ -1,5 +1,5 @@
 -- Recorded answers: lists that are handed over and come back, and histories that grow call by call.
-use Rattle.std.proofs.Common.{◌≡◌, ℕ, ◌+◌, ◌<◌, Bool, false, T, List, [], ◌∷◌, ◌++◌, map, length, get_or, take, IfOk, Ok, Err, Result, sym, refl, ap, ◌∙◌, subst, subst₂, arith, MatchResult}
+use Rattle.std.proofs.Common.{◌≡◌, ℕ, ◌+◌, ◌<◌, Bool, List, [], ◌∷◌, ◌++◌, map, length, get_or, take, IfOk, Ok, Err, Result, sym, refl, ap, ◌∙◌, subst, subst₂, MatchResult}
 use Rattle.std.specs.Result.{IsOkAnd}
 use Rattle.std.proofs.lemmas.List.{take_more}
 use Rattle.laws.specs.Systems.{Meaning, Lawful}
@@ -52,15 +52,6 @@ is_question (Place x) = place?
 is_question (Neighbours x) = neighbours?
 is_question (Outline l) = outline?
 is_question (Rounds l) = rounds?
-
--- no call was made
-pub ran_none : (m : Meaning) (s : ℕ → Bool) → ((p : ℕ) → s p ≡ false) → Ran m (record { calls = []; answers = [] }) s
-ran_none m s out =
-    record {
-      full = refl;
-      right = λ i c a t here has. let lt = here.0 in absurd (omega arith);
-      has = λ p. (λ h. absurd (subst T (out p) h), λ (i, (a, here, _), _). let lt = here.0 in absurd (omega arith));
-    }
 
 -- one call more
 pub ran_more : (m : Meaning) (h : History) (s t : ℕ → Bool) (c : TheCall) (a : TheAnswer) → Ran m h s → Called m s t c a → Ran m (then h c a) t

@@ -1,7 +1,7 @@
-use Rattle.std.proofs.Common.{◌≡◌, ℕ, true, T, Ok, sym, ap, ◌∙◌, subst, arith}
+use Rattle.std.proofs.Common.{true, T, Ok, sym, refl, subst, arith}
 use Rattle.runs.specs.Calls.{Answers, add}
 use Rattle.hull.specs.Rings.{listed}
-use Rattle.hull.specs.Records.{held, with_held, Sound}
+use Rattle.hull.specs.Records.{held, Sound}
 use Rattle.hull.specs.Replies.{added_answer}
 use Rattle.runs.proofs.Decided.{more_marks}
 use Rattle.runs.proofs.SomeAnswer.{with_it}
@@ -37,9 +37,7 @@ invariant_of-self-4 g c =
     let ring = listed c.grow-ring.result in
     let x = c.args.m in
     let (x_in, out) = c.in_ok-admits.ensures.admits in
-    let same : (p : ℕ) → held new.records p ≡ held (with_held h.state.records x true) p =
-    λ p. c.settle.ensures.marks p ∙ ap (λ rs. held rs p) c.set_in.ensures.records in
-    let one = held_added h.state.records new.records x (omega (arith, L.limit, h.state.long)) out same in
+    let one = held_added h.state.records c.set_in.new.self.records new.records x true (omega (arith, L.limit, h.state.long)) c.set_in.ensures.records c.settle.ensures.marks refl out in
     record {
       sound = subst (λ r. Sound m new.records (listed r)) (sym c.settle.ensures.ring)
           (sound_added L h.state.records new.records x (listed h.state.ring) ring h.sound x_in one c.grow-ring.ensures.grows c.settle.ensures.links);
@@ -54,9 +52,7 @@ returns-clause-answer g c =
     let ring = listed c.grow-ring.result in
     let x = c.args.m in
     let (x_in, out) = c.in_ok-admits.ensures.admits in
-    let same : (p : ℕ) → held new.records p ≡ held (with_held h.state.records x true) p =
-    λ p. c.settle.ensures.marks p ∙ ap (λ rs. held rs p) c.set_in.ensures.records in
-    let one = held_added h.state.records new.records x (omega (arith, L.limit, h.state.long)) out same in
+    let one = held_added h.state.records c.set_in.new.self.records new.records x true (omega (arith, L.limit, h.state.long)) c.set_in.ensures.records c.settle.ensures.marks refl out in
     let next = c.grow-ring.ensures.grows (held h.state.records) (held new.records) h.sound.marks h.sound.is_ring one in
     subst (λ a. Answers m (held h.state.records) (add x) (added_answer (Ok a))) (sym c.from.ensures)
     (adds_by L (held h.state.records) (held new.records) x (listed h.state.ring) ring h.sound.marks x_in one h.sound.is_ring next c.exchanged-pushed_off.result c.exchanged-pushed_off.ensures.exchanged)

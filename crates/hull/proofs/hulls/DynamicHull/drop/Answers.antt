@@ -1,9 +1,9 @@
-use Rattle.std.proofs.Common.{◌≡◌, ℕ, false, sym, ap, ◌∙◌, subst, arith}
+use Rattle.std.proofs.Common.{false, sym, refl, ◌∙◌, subst, arith}
 use mathlib.Core.Path.{fun_ext}
 use Rattle.runs.specs.Calls.{Answers, RingOf, drop, dropped, to_drop, of_drop}
 use Rattle.runs.proofs.Decided.{less_marks}
 use Rattle.hull.specs.Rings.{listed}
-use Rattle.hull.specs.Records.{held, with_held, Sound}
+use Rattle.hull.specs.Records.{held, Sound}
 use Rattle.hull.specs.declared.rings.Ring.{Ring}
 use Rattle.hull.specs.Replies.{Exchanged, dropped_answer}
 use Rattle.hull.proofs.Telling.{not_held, refused}
@@ -25,7 +25,7 @@ settle-requires g c =
     let L = g.S.CcSystem.lawful h.system in
     let mid = c.set_in.new.self in
     let (x_in, inn) = c.in_ok-holds.ensures.holds in
-    let one = held_dropped h.state.records mid.records c.args.m (omega (arith, L.limit, h.state.long)) inn (λ p. ap (λ rs. held rs p) c.set_in.ensures.records) in
+    let one = held_dropped h.state.records mid.records mid.records c.args.m false (omega (arith, L.limit, h.state.long)) c.set_in.ensures.records (λ p. refl) refl inn in
     record { recorded = recorded L (less_marks m one h.sound.marks) (subst (λ s. RingOf m s (listed c.outline_of-ring.result)) (fun_ext c.flags.ensures.flags) c.outline_of-ring.ensures.ring) }
 
 pub invariant_of-self-3 : goal.invariant_of-self-3
@@ -36,9 +36,7 @@ invariant_of-self-3 g c =
     let new = c.settle.new.self in
     let ring = listed c.outline_of-ring.result in
     let (x_in, inn) = c.in_ok-holds.ensures.holds in
-    let same : (p : ℕ) → held new.records p ≡ held (with_held h.state.records c.args.m false) p =
-    λ p. c.settle.ensures.marks p ∙ ap (λ rs. held rs p) c.set_in.ensures.records in
-    let one = held_dropped h.state.records new.records c.args.m (omega (arith, L.limit, h.state.long)) inn same in
+    let one = held_dropped h.state.records c.set_in.new.self.records new.records c.args.m false (omega (arith, L.limit, h.state.long)) c.set_in.ensures.records c.settle.ensures.marks refl inn in
     let new-ring = subst (λ s. RingOf m s ring) (fun_ext (λ p. c.flags.ensures.flags p ∙ sym (c.settle.ensures.marks p))) c.outline_of-ring.ensures.ring in
     record {
       sound = subst (λ r. Sound m new.records (listed r)) (sym c.settle.ensures.ring)
@@ -54,9 +52,7 @@ returns-clause-answer g c =
     let ring = listed c.outline_of-ring.result in
     let x = c.args.m in
     let (x_in, inn) = c.in_ok-holds.ensures.holds in
-    let same : (p : ℕ) → held new.records p ≡ held (with_held h.state.records x false) p =
-    λ p. c.settle.ensures.marks p ∙ ap (λ rs. held rs p) c.set_in.ensures.records in
-    let one = held_dropped h.state.records new.records x (omega (arith, L.limit, h.state.long)) inn same in
+    let one = held_dropped h.state.records c.set_in.new.self.records new.records c.args.m false (omega (arith, L.limit, h.state.long)) c.set_in.ensures.records c.settle.ensures.marks refl inn in
     let new-ring = subst (λ s. RingOf m s ring) (fun_ext (λ p. c.flags.ensures.flags p ∙ sym (c.settle.ensures.marks p))) c.outline_of-ring.ensures.ring in
     subst (λ n. Answers m (held h.state.records) (drop x) (dropped n)) (sym c.unwrap_or-left.ensures)
     (drops_by L (held new.records) (held h.state.records) x ring (listed h.state.ring) (less_marks m one h.sound.marks) x_in one new-ring h.sound.is_ring c.exchanged.result
