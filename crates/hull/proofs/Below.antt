@@ -1,5 +1,5 @@
 -- The marks of a set below a number, one more at a time.
-use Rattle.std.proofs.Common.{◌≡◌, ℕ, ◌+◌, ◌<◌, ◌≤◌, Bool, false, T, ltb, ◌≢◌, List, [], sym, ap, ◌∙◌, subst, arith, ltb→lt, lt-ltb}
+use Rattle.std.proofs.Common.{◌≡◌, ℕ, ◌+◌, ◌<◌, ◌≤◌, Bool, false, T, ltb, ◌≢◌, [], sym, ap, ◌∙◌, subst, arith, ltb→lt, lt-ltb}
 use Rattle.laws.specs.Systems.{Meaning}
 use Rattle.laws.specs.Outlines.{Marks, none}
 use Rattle.laws.specs.Theorems.{of}
@@ -7,7 +7,6 @@ use Rattle.laws.proofs.Names.{both, and}
 use Rattle.runs.specs.Calls.{RingOf, OneMore}
 use Rattle.runs.proofs.Decided.{test_same, set_same}
 use Rattle.hull.specs.Records.{below}
-use Rattle.hull.specs.Rings.{Beside}
 
 module _ (s : ℕ → Bool) where
   pub below_in : (n p : ℕ) → T (below s n p) → T (s p) × (p < n)
@@ -39,8 +38,3 @@ module _ (s : ℕ → Bool) where
 
   pub below_all : (m : Meaning) → Marks m (of s) → (n : ℕ) → m.count ≤ n → below s n ≡ s
   below_all m marks n h = set_same {s = below s n} {t = s} (λ p. (λ k. (below_in n p k).0, λ k. let lt = marks p k in in_below n p k (omega arith)))
-
-  -- the ring of the marks below n goes beside n
-  pub below_beside : (m : Meaning) → Marks m (of s) → (n : ℕ) (ring : List ℕ) → n < m.count → RingOf m (below s n) ring → Beside m ring n
-  below_beside m marks n ring lt r =
-      record { set = below s n; marks = λ p k. marks p (below_in n p k).0; is_ring = r; x_in = lt; x_out = λ k. let i = (below_in n n k).1 in omega arith }

@@ -1,5 +1,5 @@
 -- What an add and a drop make of the records.
-use Rattle.std.proofs.Common.{◌≡◌, ℕ, ◌<◌, Bool, true, false, T, List, [], ◌∷◌, length, Some, None, Ok, Option, unwrap_or, sym, refl, ◌∙◌, subst, arith}
+use Rattle.std.proofs.Common.{◌≡◌, ℕ, ◌<◌, Bool, true, false, T, ◌≢◌, List, [], ◌∷◌, length, Some, None, Ok, Option, unwrap_or, sym, refl, ap, ◌∙◌, subst, arith}
 use Rattle.std.proofs.ByRecursion.{All-get_or}
 use Rattle.laws.specs.Systems.{Meaning, Lawful}
 use Rattle.laws.specs.Outlines.{Marks, Turned}
@@ -35,22 +35,19 @@ is_true b e = subst T (sym e) tt
 is_false : (b : Bool) → b ≡ false → T b → ⊥
 is_false b e h = subst T e h
 
-module _ (rs rs' : List Record) (x : ℕ) (x-has : x < length rs) where
-  pub held_added : held rs x ≡ false → ((p : ℕ) → held rs' p ≡ held (with_held rs x true) p) → OneMore (held rs) x (held rs')
-  held_added out same =
-      record {
-        new = is_true (held rs' x) (same x ∙ held_new rs x true x-has);
-        was = is_false (held rs x) out;
-        others = λ p n. sym (same p ∙ held_other rs x true p n);
-      }
+-- mark x was put in, or out, and the marks stayed from then on
+module _ (rs mid rs' : List Record) (x : ℕ) (b : Bool) (x_has : x < length rs) (changed : mid ≡ with_held rs x b) (stays : (p : ℕ) → held rs' p ≡ held mid p) where
+  held_x : held rs' x ≡ b
+  held_x = stays x ∙ ap (λ r. held r x) changed ∙ held_new rs x b x_has
 
-  pub held_dropped : held rs x ≡ true → ((p : ℕ) → held rs' p ≡ held (with_held rs x false) p) → OneMore (held rs') x (held rs)
-  held_dropped inn same =
-      record {
-        new = is_true (held rs x) inn;
-        was = is_false (held rs' x) (same x ∙ held_new rs x false x-has);
-        others = λ p n. same p ∙ held_other rs x false p n;
-      }
+  held_others : (p : ℕ) → p ≢ x → held rs' p ≡ held rs p
+  held_others p n = stays p ∙ ap (λ r. held r p) changed ∙ held_other rs x b p n
+
+  pub held_added : b ≡ true → held rs x ≡ false → OneMore (held rs) x (held rs')
+  held_added put out = record { new = is_true (held rs' x) (held_x ∙ put); was = is_false (held rs x) out; others = λ p n. sym (held_others p n) }
+
+  pub held_dropped : b ≡ false → held rs x ≡ true → OneMore (held rs') x (held rs)
+  held_dropped put inn = record { new = is_true (held rs x) inn; was = is_false (held rs' x) (held_x ∙ put); others = held_others }
 
 module _ {m : Meaning} (L : Lawful m) (s t : ℕ → Bool) (x : ℕ) (without with' : List ℕ) (marks : Marks m (of s)) (x_in : x < m.count)
     (one : OneMore s x t) (r : RingOf m s without) (r' : RingOf m t with') where

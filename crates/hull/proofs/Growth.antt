@@ -1,5 +1,5 @@
 -- The ring around one mark more, put together mark by mark: it is an outline of the marks and the new one.
-use Rattle.std.proofs.Common.{◌≡◌, ℕ, zero, suc, ◌+◌, ◌-◌, ◌<◌, ◌≤◌, Bool, true, false, T, List, [], ◌∷◌, ◌++◌, length, get_or, drop, sym, refl, ap, ◌∙◌, subst, ap₂, inl, inr, append_assoc, append-nil, add-one, arith, drop-cons}
+use Rattle.std.proofs.Common.{◌≡◌, ℕ, zero, suc, ◌+◌, ◌-◌, ◌<◌, ◌≤◌, Bool, true, false, T, List, [], ◌∷◌, ◌++◌, length, get_or, drop, sym, refl, ap, ◌∙◌, subst, ap₂, inl, inr, append_assoc, append-nil, add-one, arith, length-append, drop-cons, drop_of_length-le}
 use mathlib.Core.Logic.Iff
 use Rattle.laws.specs.Systems.{Meaning, Three, Left, Lawful}
 use Rattle.laws.specs.Outlines.{Step, Follows, Outline, none, one as single, more, ReadOut, Turned}
@@ -40,7 +40,7 @@ module _ (sees : ℕ → ℕ → Bool) (x : ℕ) where
   rotated_is [] h = absurd (omega arith)
   rotated_is (a ∷ l) h = refl
 
-  pub grown_more : (b seen : Bool) (l : List ℕ) (i : ℕ) → i < length l → seen ≡ sees (get_or l i 0) (get_or (rotated l) i 0)
+  grown_more : (b seen : Bool) (l : List ℕ) (i : ℕ) → i < length l → seen ≡ sees (get_or l i 0) (get_or (rotated l) i 0)
       → grown b (drop i l) (get_or l 0 0) ≡ left_on b seen (get_or l i 0) x ++ grown seen (drop (i + 1) l) (get_or l 0 0)
   grown_more b seen l i h e =
       let z = get_or l 0 0 in
@@ -49,6 +49,23 @@ module _ (sees : ℕ → ℕ → Bool) (x : ℕ) where
       ap (λ k. grown b k z) (drop-cons l i 0 h)
       ∙ ap (λ s. left_on b s (get_or l i 0) x ++ grown s (drop (suc i) l) z) e'
       ∙ ap (λ k. left_on b seen (get_or l i 0) x ++ grown seen (drop k l) z) (sym (add-one i))
+
+  -- a mark's turn: a stands at place i, and x sees the arc from it or not
+  module _ (l : List ℕ) (i a : ℕ) (to from : Bool) (new new' : List ℕ) (h : i < length l) (a_is : a ≡ get_or l i 0) (from_is : from ≡ sees a (get_or (rotated l) i 0))
+      (so_far : new ++ grown to (drop i l) (get_or l 0 0) ≡ whole l) where
+    turn : new ++ (left_on to from a x ++ grown from (drop (i + 1) l) (get_or l 0 0)) ≡ whole l
+    turn =
+        ap (λ b. new ++ (left_on to from b x ++ grown from (drop (i + 1) l) (get_or l 0 0))) a_is
+        ∙ ap (λ k. new ++ k) (sym (grown_more to from l i h (from_is ∙ ap (λ b. sees b (get_or (rotated l) i 0)) a_is))) ∙ so_far
+
+    pub turn_fits : length new + length (left_on to from a x) ≤ length (whole l)
+    turn_fits = omega (arith, ap length turn, length-append new (left_on to from a x ++ grown from (drop (i + 1) l) (get_or l 0 0)), length-append (left_on to from a x) (grown from (drop (i + 1) l) (get_or l 0 0)))
+
+    pub turn_more : new' ≡ new ++ left_on to from a x → new' ++ grown from (drop (i + 1) l) (get_or l 0 0) ≡ whole l
+    turn_more e = ap (λ k. k ++ grown from (drop (i + 1) l) (get_or l 0 0)) e ∙ append_assoc new (left_on to from a x) (grown from (drop (i + 1) l) (get_or l 0 0)) ∙ turn
+
+    pub turn_last : i + 1 ≡ length l → new' ≡ new ++ left_on to from a x → new' ≡ whole l
+    turn_last n e = sym (append-nil new') ∙ ap (λ k. new' ++ grown from k (get_or l 0 0)) (sym (drop_of_length-le l {i = i + 1} (omega arith))) ∙ turn_more e
 
   -- the marks of a list, and then those of another
   grown_append : (b : Bool) (a : ℕ) (k : List ℕ) (c : ℕ) (l : List ℕ) (z : ℕ)

@@ -1,9 +1,10 @@
 -- Peeling one outline after another off the marks.
-use Rattle.std.proofs.Common.{◌≡◌, ℕ, zero, suc, ◌+◌, ◌-◌, ◌<◌, ◌≤◌, Bool, true, false, T, ◌≢◌, ◌⊎◌, ◌↔◌, List, [], ◌∷◌, length, get_or, take, drop, set, sym, refl, ap, ◌∙◌, subst, inl, inr, add-zero, arith, length-drop, length-set, length-take-le, get_or-drop, get_or-set_other, get_or-take, get_or-set_same, ext_get_or}
+use Rattle.std.proofs.Common.{◌≡◌, ℕ, zero, suc, ◌+◌, ◌-◌, ◌<◌, ◌≤◌, Bool, true, false, T, ◌≢◌, ◌⊎◌, ◌↔◌, List, [], ◌∷◌, ◌++◌, length, get_or, take, drop, set, sym, refl, ap, ◌∙◌, subst, inl, inr, add-zero, arith, length-drop, length-take-le, get_or-drop, get_or-take, get_or-set_same, ext_get_or}
+use lib.ListN.{get_or-append}
+use Rattle.std.proofs.lemmas.List.{get_or-append_right}
 use Rattle.laws.specs.Systems.{Meaning, Lawful}
 use Rattle.laws.specs.Outlines.{Marks, Outline, none}
 use Rattle.laws.specs.Theorems.{of}
-use Rattle.laws.proofs.Walks.{other}
 use Rattle.runs.specs.Calls.{On, RingOf, Peeled, outer, inner, Rounds}
 use Rattle.runs.proofs.Standing.{ring_in}
 use Rattle.runs.proofs.SomeAnswer.{on_or, size, size_in, size_lost, lighter}
@@ -22,14 +23,12 @@ clear_at l a p e = ap (flagged (set l a false)) e ∙ go l a
     go (b ∷ l) zero = refl
     go (b ∷ l) (suc a) = go l a
 
--- the first i entries are cleared
-abbrev pub Cleared : List ℕ → List ℕ → ℕ → Type 0
-Cleared entries₀ entries i = ((p : ℕ) → p < i → get_or entries p 0 ≡ 0) × ((p : ℕ) → i ≤ p → get_or entries p 0 ≡ get_or entries₀ p 0)
-
-pub cleared_more : (entries₀ entries : List ℕ) (i : ℕ) → i < length entries → Cleared entries₀ entries i → Cleared entries₀ (set entries i 0) (i + 1)
-cleared_more entries₀ entries i h (zeros, rest) = (
-  λ p lt. elim (other p i) [ inl e ↦ set_at entries i 0 p h e | inr n ↦ get_or-set_other entries i p 0 0 n ∙ zeros p (omega arith) ],
-  λ p le. let n : p ≢ i = omega arith in get_or-set_other entries i p 0 0 n ∙ rest p (omega arith),
+-- the first n entries are cleared, and the others stay
+pub cleared : (entries front : List ℕ) (n : ℕ) → length front ≡ n → n ≤ length entries → ((p : ℕ) → p < n → get_or front p 0 ≡ 0)
+    → ((p : ℕ) → p < n → get_or (front ++ drop n entries) p 0 ≡ 0) × ((p : ℕ) → n ≤ p → get_or (front ++ drop n entries) p 0 ≡ get_or entries p 0)
+cleared entries front n long room zeros = (
+  λ p h. get_or-append front (drop n entries) 0 p (omega arith) ∙ zeros p h,
+  λ p h. get_or-append_right front (drop n entries) n p 0 long h ∙ get_or-drop n entries (p - n) 0 ∙ ap (λ i. get_or entries i 0) (omega arith),
 )
 
 -- the first i marks of the ring are off, and the others are as they were
@@ -37,28 +36,6 @@ pub record Off (ring : List ℕ) (round : ℕ) (flags₀ : List Bool) (entries�
   pub same_length : length entries ≡ length entries₀
   pub on : (k : ℕ) → k < i → (get_or entries (get_or ring k 0) 0 ≡ round) × (flagged flags (get_or ring k 0) ≡ false)
   pub off : (p : ℕ) → ((k : ℕ) → k < i → get_or ring k 0 ≢ p) → (get_or entries p 0 ≡ get_or entries₀ p 0) × (flagged flags p ≡ flagged flags₀ p)
-
-pub off_none : (ring : List ℕ) (round : ℕ) (flags : List Bool) (entries : List ℕ) → Off ring round flags entries flags entries 0
-off_none ring round flags entries = record { same_length = refl; on = λ k h. absurd (omega arith); off = λ p n. (refl, refl) }
-
-pub off_more : (ring : List ℕ) (round : ℕ) (flags₀ : List Bool) (entries₀ : List ℕ) (flags : List Bool) (entries : List ℕ) (i a : ℕ)
-    → Off ring round flags₀ entries₀ flags entries i → a ≡ get_or ring i 0 → a < length entries
-    → Off ring round flags₀ entries₀ (set flags a false) (set entries a round) (i + 1)
-off_more ring round flags₀ entries₀ flags entries i a o e h =
-    record {
-      same_length = length-set entries a round ∙ o.same_length;
-      on = λ k lt. elim (other (get_or ring k 0) a) [
-        | inl d ↦ (set_at entries a round _ h d, clear_at flags a _ d)
-        | inr n ↦
-            let k≢i : k ≢ i = λ d. n (ap (λ j. get_or ring j 0) d ∙ sym e) in
-            let (x, y) = o.on k (omega arith) in
-            (get_or-set_other entries a (get_or ring k 0) round 0 n ∙ x, get_or-set_other flags a (get_or ring k 0) false false n ∙ y)
-      ];
-      off = λ p n.
-          let p≢a : p ≢ a = λ d. n i (omega arith) (sym e ∙ sym d) in
-          let (x, y) = o.off p (λ k lt. n k (omega arith)) in
-          (get_or-set_other entries a p round 0 p≢a ∙ x, get_or-set_other flags a p false false p≢a ∙ y);
-    }
 
 -- ---- all rings off
 

@@ -7,7 +7,5 @@ pub mod Changes
 pub mod Fanning
 pub mod Layers
 pub mod OfWords
-pub mod Sealing
-pub mod OfRows
 pub mod Telling
 pub mod Recording

@@ -31,50 +31,64 @@ module _ (rs : List Record) (p q : ℕ) (hp : p < length rs) (hq : q < length rs
   hq' : q < length (with_after rs p q)
   hq' = subst (λ n. q < n) (sym (length-set rs p _)) hq
 
-  pub tied_held : (r : ℕ) → held tied r ≡ held rs r
+  tied_held : (r : ℕ) → held tied r ≡ held rs r
   tied_held r = kept_field (λ (x : Record). x.is_in) (with_after rs p q) q _ hq' refl r ∙ kept_field (λ (x : Record). x.is_in) rs p _ hp refl r
 
-  pub tied_after : (at tied p).after ≡ q
+  tied_after : (at tied p).after ≡ q
   tied_after = kept_field (λ (x : Record). x.after) (with_after rs p q) q _ hq' refl p ∙ ap (λ (x : Record). x.after) (put_at rs p _ hp)
 
-  pub tied_before : (at tied q).before ≡ p
+  tied_before : (at tied q).before ≡ p
   tied_before = ap (λ (x : Record). x.before) (put_at (with_after rs p q) q _ hq')
 
-  pub other_after : (r : ℕ) → r ≢ p → (at tied r).after ≡ (at rs r).after
+  other_after : (r : ℕ) → r ≢ p → (at tied r).after ≡ (at rs r).after
   other_after r n = kept_field (λ (x : Record). x.after) (with_after rs p q) q _ hq' refl r ∙ ap (λ (x : Record). x.after) (put_other rs p r _ n)
 
-  pub other_before : (r : ℕ) → r ≢ q → (at tied r).before ≡ (at rs r).before
+  other_before : (r : ℕ) → r ≢ q → (at tied r).before ≡ (at rs r).before
   other_before r n = ap (λ (x : Record). x.before) (put_other (with_after rs p q) q r _ n) ∙ kept_field (λ (x : Record). x.before) rs p _ hp refl r
 
 -- the mark at a place of the ring is linked with its follower
 abbrev pub LinkAt : List Record → List ℕ → ℕ → Type 0
 LinkAt rs l i = ((at rs (get_or l i 0)).after ≡ get_or (rotated l) i 0) × ((at rs (get_or (rotated l) i 0)).before ≡ get_or l i 0)
 
-pub rotated_length : (l : List ℕ) → length (rotated l) ≡ length l
+rotated_length : (l : List ℕ) → length (rotated l) ≡ length l
 rotated_length [] = refl
 rotated_length (a ∷ l) = length-append l (a ∷ []) ∙ omega arith
 
--- one link more
-pub link_more : (rs : List Record) (l : List ℕ) (i : ℕ) → Recorded l → i < length l → get_or l i 0 < length rs → get_or (rotated l) i 0 < length rs
-    → ((k : ℕ) → k < i → LinkAt rs l k) → (k : ℕ) → k < i + 1 → LinkAt (with_before (with_after rs (get_or l i 0) (get_or (rotated l) i 0)) (get_or (rotated l) i 0) (get_or l i 0)) l k
-link_more rs l i rec h hp hq old k lt =
-    elim (other k i) [
-      | inl e ↦
-          subst (LinkAt (with_before (with_after rs p q) q p) l) (sym e) (tied_after rs p q hp hq, tied_before rs p q hp hq)
-      | inr n ↦
-          let lk : k < i = omega arith in
-          let (a, b) = old k lk in (
-            other_after rs p q hp hq (get_or l k 0) (named_apart l rec.apart k i (omega arith) h n) ∙ a,
-            other_before rs p q hp hq (get_or (rotated l) k 0)
-                (named_apart (rotated l) rec.apart_next k i (omega (arith, rotated_length l)) (omega (arith, rotated_length l)) n) ∙ b,
-          )
+-- the follower of a mark has a record too
+pub small_next : (l : List ℕ) → Recorded l → (i : ℕ) → i < length l → get_or (rotated l) i 0 < 128
+small_next l rec i h =
+    elim (dec_lt (i + 1) (length l)) [
+      | yes k ↦ subst (λ c. c < 128) (sym (rotated_next l i k)) (rec.small (i + 1) k)
+      | no k ↦ subst (λ c. c < 128) (sym (rotated_last l i h (omega arith))) (rec.small 0 (omega arith))
     ]
-  where
-    p : ℕ
-    p = get_or l i 0
 
-    q : ℕ
-    q = get_or (rotated l) i 0
+-- one link more: p stands at place i, and q follows it
+module _ (rs : List Record) (l : List ℕ) (i p q : ℕ) (long : length rs ≡ 128) (rec : Recorded l) (h : i < length l) (p_is : p ≡ get_or l i 0) (q_is : q ≡ get_or (rotated l) i 0) where
+  p_has : p < length rs
+  p_has = omega (arith, rec.small i h)
+
+  q_has : q < length rs
+  q_has = omega (arith, small_next l rec i h)
+
+  pub link_more : (rs' : List Record) → rs' ≡ with_before (with_after rs p q) q p → ((k : ℕ) → k < i → LinkAt rs l k) → (k : ℕ) → k < i + 1 → LinkAt rs' l k
+  link_more rs' e old k lt =
+      subst (λ (r : List Record). LinkAt r l k) (sym e)
+      (elim (other k i) [
+        | inl d ↦ (
+          ap (λ a. (at (tied rs p q p_has q_has) a).after) (ap (λ j. get_or l j 0) d ∙ sym p_is) ∙ tied_after rs p q p_has q_has ∙ q_is ∙ ap (λ j. get_or (rotated l) j 0) (sym d),
+          ap (λ b. (at (tied rs p q p_has q_has) b).before) (ap (λ j. get_or (rotated l) j 0) d ∙ sym q_is) ∙ tied_before rs p q p_has q_has ∙ p_is ∙ ap (λ j. get_or l j 0) (sym d),
+        )
+        | inr n ↦
+            let (x, y) = old k (omega arith) in (
+              other_after rs p q p_has q_has (get_or l k 0) (λ d. named_apart l rec.apart k i (omega arith) h n (d ∙ p_is)) ∙ x,
+              other_before rs p q p_has q_has (get_or (rotated l) k 0)
+                  (λ d. named_apart (rotated l) rec.apart_next k i (omega (arith, rotated_length l)) (omega (arith, rotated_length l)) n (d ∙ q_is)) ∙ y,
+            )
+      ])
+
+-- the same of the marks that are in
+pub link_held : (rs rs' : List Record) (p q : ℕ) → length rs ≡ 128 → p < 128 → q < 128 → rs' ≡ with_before (with_after rs p q) q p → (r : ℕ) → held rs' r ≡ held rs r
+link_held rs rs' p q long hp hq e r = ap (λ (k : List Record). held k r) e ∙ tied_held rs p q (omega arith) (omega arith) r
 
 -- all links
 pub all_linked : (rs : List Record) (l : List ℕ) → ((k : ℕ) → k < length l → LinkAt rs l k) → Linked rs l
@@ -84,7 +98,7 @@ all_linked rs (a ∷ l) h p q f =
     let (x, y) = h i lt in
     (ap (λ c. (at rs c).after) (sym e) ∙ x ∙ d, ap (λ c. (at rs c).before) (sym d) ∙ y ∙ e)
 
-pub replicate_at : {X : Type 0} (n k : ℕ) (x : X) → get_or (replicate n x) k x ≡ x
+replicate_at : {X : Type 0} (n k : ℕ) (x : X) → get_or (replicate n x) k x ≡ x
 replicate_at zero k x = refl
 replicate_at (suc n) zero x = refl
 replicate_at (suc n) (suc k) x = replicate_at n k x
@@ -92,14 +106,6 @@ replicate_at (suc n) (suc k) x = replicate_at n k x
 -- nothing is in at first
 pub none_held : (p : ℕ) → held (replicate 128 away) p ≡ false
 none_held p = ap (λ (r : Record). r.is_in) (replicate_at 128 p away)
-
--- the follower of a mark has a record too
-pub small_next : (l : List ℕ) → Recorded l → (i : ℕ) → i < length l → get_or (rotated l) i 0 < 128
-small_next l rec i h =
-    elim (dec_lt (i + 1) (length l)) [
-      | yes k ↦ subst (λ c. c < 128) (sym (rotated_next l i k)) (rec.small (i + 1) k)
-      | no k ↦ subst (λ c. c < 128) (sym (rotated_last l i h (omega arith))) (rec.small 0 (omega arith))
-    ]
 
 -- x in or out: the other marks are as they were
 pub held_new : (rs : List Record) (x : ℕ) (b : Bool) → x < length rs → held (with_held rs x b) x ≡ b

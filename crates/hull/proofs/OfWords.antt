@@ -1,10 +1,14 @@
 -- Words and their bits.
-use Rattle.std.proofs.Common.{◌≡◌, ℕ, zero, suc, ◌+◌, ◌*◌, ◌/◌, ◌%◌, ◌^◌, ◌<◌, ◌≤◌, Bool, true, false, cond, eqb, List, ◌∷◌, length, filter, sym, refl, ap, ◌∙◌, subst, add-zero, zero-add, mul_left_comm, add-one, one-add, arith, lit<}
+use Rattle.std.proofs.Common.{◌≡◌, ℕ, zero, suc, ◌+◌, ◌*◌, ◌/◌, ◌%◌, ◌^◌, ◌<◌, ◌≤◌, Bool, true, false, cond, eqb, List, [], ◌∷◌, length, filter, take, drop, reverse, fold, drop-cons, sym, refl, ap, ◌∙◌, add-zero, zero-add, add-one, one-add, arith}
 use native.Mathlib.Nat.{pow-succ'}
 use lib.Count.{ones, ones_step}
 use lib.Bits.{bit_or}
 use Rattle.std.specs.List.{range_with_len}
-use Rattle.std.proofs.lemmas.Nat.{shr-shr, shl_whole, or_comm, or_shifted}
+use Rattle.std.proofs.lemmas.List.{reverse-append}
+use Rattle.std.proofs.lemmas.List.Sums.{fold-append}
+use Rattle.hull.specs.declared.records.Record.{Record}
+use Rattle.hull.specs.Records.{away, at, held}
+use Rattle.std.proofs.lemmas.Nat.{shr-shr, shl_whole, or_shifted}
 use Rattle.hull.specs.Words.{word_of, bit, how_many}
 
 abbrev b01 : Bool → ℕ
@@ -55,30 +59,24 @@ word_bit f a (suc n) (suc k) h =
     ap (λ j. w / 2 ^ j) (sym (one-add k)) ∙ sym (shr-shr w 1 k) ∙ ap (λ x. x / 2 ^ k) (rest (f a) (word_of f (a + 1) n)) in
     ap (λ x. eqb (x % 2) 1) e ∙ word_bit f (a + 1) n k (omega arith) ∙ ap f (omega arith)
 
--- one more bit above
-pub word_more : (f : ℕ → Bool) (a n : ℕ) → word_of f a (suc n) ≡ word_of f a n + b01 (f (a + n)) * 2 ^ n
+-- a record's bit put below those of the records after it
+abbrev pub with_bit : ℕ → Record → ℕ
+with_bit w r = bit_or (w * 2 ^ 1 % 2 ^ 64) (b01 r.is_in)
+
+with_bit_is : (w n : ℕ) (r : Record) → w < 2 ^ n → n < 64 → with_bit w r ≡ b01 r.is_in + 2 * w
+with_bit_is w n r h k =
+    ap (λ x. bit_or x (b01 r.is_in)) (shl_whole w n 1 64 h (omega arith)) ∙ or_shifted w 1 (b01 r.is_in) (omega (arith, b01_le r.is_in)) ∙ omega arith
+
+pub word_folded : (rs : List Record) (a n : ℕ) → a + n ≤ length rs → n ≤ 64 → fold with_bit 0 (reverse (take n (drop a rs))) ≡ word_of (held rs) a n
 unfolding word_of
-word_more f a zero = omega (arith, ap (λ j. b01 (f j)) (sym (add-zero a)))
-word_more f a (suc n) =
-    let e : a + 1 + n ≡ a + suc n = omega arith in
-    let b : ℕ = b01 (f (a + suc n)) in
-    let twice : b * 2 ^ suc n ≡ 2 * (b * 2 ^ n) = ap (λ x. b * x) (pow-succ' 2 n) ∙ mul_left_comm b 2 (2 ^ n) in
-    omega (arith, word_more f (a + 1) n ∙ ap (λ j. word_of f (a + 1) n + b01 (f j) * 2 ^ n) e, twice)
-
--- a turn of the loop that sets bit k
-module _ (f : ℕ → Bool) (a k w : ℕ) (is : w ≡ word_of f a k) where
-  pub sets_bit : k < 64 → f (a + k) ≡ true → bit_or w (1 * 2 ^ k % 2 ^ 64) ≡ word_of f a (k + 1)
-  sets_bit h on =
-      let below : w < 2 ^ k = subst (λ x. x < 2 ^ k) (sym is) (word_lt f a k) in
-      let sum : word_of f a (k + 1) ≡ word_of f a k + b01 (f (a + k)) * 2 ^ k = ap (word_of f a) (add-one k) ∙ word_more f a k in
-      let one : b01 (f (a + k)) * 2 ^ k ≡ 1 * 2 ^ k = ap (λ b. b01 b * 2 ^ k) on in
-      ap (bit_or w) (shl_whole 1 1 k 64 (lit< tt) (omega arith)) ∙ or_comm w (1 * 2 ^ k) ∙ or_shifted 1 k w below ∙ omega arith
-
-  pub keeps_bit : f (a + k) ≡ false → w ≡ word_of f a (k + 1)
-  keeps_bit off =
-      let sum : word_of f a (k + 1) ≡ word_of f a k + b01 (f (a + k)) * 2 ^ k = ap (word_of f a) (add-one k) ∙ word_more f a k in
-      let none : b01 (f (a + k)) * 2 ^ k ≡ 0 * 2 ^ k = ap (λ b. b01 b * 2 ^ k) off in
-      omega arith
+word_folded rs a zero h k = refl
+word_folded rs a (suc n) h k =
+    let r = at rs a in
+    let l = take n (drop (a + 1) rs) in
+    let cut : take (suc n) (drop a rs) ≡ r ∷ l = ap (take (suc n)) (drop-cons rs a away (omega arith)) ∙ ap (λ i. r ∷ take n (drop i rs)) (sym (add-one a)) in
+    ap (λ i. fold with_bit 0 (reverse i)) cut ∙ ap (fold with_bit 0) (reverse-append (r ∷ []) l) ∙ fold-append with_bit 0 (reverse l) (r ∷ [])
+    ∙ ap (λ w. with_bit w r) (word_folded rs (a + 1) n (omega arith) (omega arith))
+    ∙ with_bit_is (word_of (held rs) (a + 1) n) n r (word_lt (held rs) (a + 1) n) (omega arith)
 
 -- ---- the numbers from a on, in two parts
 how_many_none : (f : ℕ → Bool) (a : ℕ) → how_many f a 0 ≡ 0

@@ -1,7 +1,7 @@
 -- Recorded answers: lists that are handed over and come back, and histories that grow call by call.
-use Rattle.std.proofs.Common.{◌≡◌, ℕ, ◌+◌, ◌<◌, Bool, false, T, List, [], ◌∷◌, ◌++◌, map, length, get_or, take, IfOk, Ok, Err, vec_items, Result, Vec, sym, refl, ap, ◌∙◌, subst, subst₂, arith, MatchResult}
-use Rattle.std.specs.Vec.{with_items}
-use Rattle.std.proofs.lemmas.List.{with_items_is, take_more}
+use Rattle.std.proofs.Common.{◌≡◌, ℕ, ◌+◌, ◌<◌, Bool, List, [], ◌∷◌, ◌++◌, map, length, get_or, take, IfOk, Ok, Err, Result, sym, refl, ap, ◌∙◌, subst, subst₂, MatchResult}
+use Rattle.std.specs.Result.{IsOkAnd}
+use Rattle.std.proofs.lemmas.List.{take_more}
 use Rattle.laws.specs.Systems.{Meaning, Lawful}
 use Rattle.cc.specs.declared.faults.Fault.{Fault}
 use Rattle.runs.specs.Calls.{add, drop, declined, Answers, OneMore}
@@ -19,17 +19,10 @@ use Rattle.hull.specs.declared.histories.Question.TheVariants.{Place, Neighbours
 use Rattle.hull.specs.declared.histories.Call.{Call}
 use Rattle.hull.specs.declared.histories.Answer.{Answer}
 use Rattle.hull.specs.declared.histories.Reply.{Reply}
+use Rattle.hull.specs.declared.histories.Reply.TheVariants.{Added as WasAdded, Dropped as WasDropped}
 use Rattle.hull.specs.Records.{held}
-use Rattle.hull.specs.Replies.{added_answer, dropped_answer, list_answer}
+use Rattle.hull.specs.Replies.{added_answer, dropped_answer}
 use Rattle.hull.specs.Histories.{question_of, call_of, told, answer_of, history, Moved, comes, goes, declines, asks, Called, Ran, Compared}
-
--- the answer to a call with a copy of the list is the answer to the call with the list
-pub with_copy : (m : Meaning) (s : ℕ → Bool) (call : List ℕ → TheCall) (q : TheCall) {Z : Type 0} (copy : Vec ℕ Z) (given before after : List ℕ) (r : Result ℕ Fault) (reply : Reply)
-    → q ≡ call given → vec_items copy ≡ given → before ≡ vec_items copy → length after ≡ length before → ((l : List ℕ) → told reply l ≡ list_answer r l)
-    → Answers m s (call before) (list_answer r after) → Answers m s q (told reply (vec_items (with_items copy after)))
-with_copy m s call q copy given before after r reply e same lent long replies h =
-    let items : vec_items (with_items copy after) ≡ after = with_items_is copy after (long ∙ ap length lent ∙ sym copy.ok.0) in
-    subst₂ (Answers m s) (ap call (lent ∙ same) ∙ sym e) (sym (ap (told reply) items ∙ replies after)) h
 
 -- how the marks move by an add, a drop and a question
 module _ (x : ℕ) (old new : HullState) where
@@ -43,20 +36,22 @@ module _ (x : ℕ) (old new : HullState) where
   dropped_moved (Ok n) h = goes h
   dropped_moved (Err f) h = declines (ap (λ (s : HullState). held s.records) (sym h))
 
+-- what is recorded of an add and of a drop
+pub added_told : (r : Result Added Fault) (reply : Result Reply Fault) → MatchResult r (λ a. IsOkAnd reply (λ q. q ≡ WasAdded a)) (λ f. reply ≡ Err f) → told reply [] ≡ added_answer r
+added_told (Ok a) (Ok q) h = ap (λ (q : Reply). told (Ok q) []) h
+added_told (Ok a) (Err f) h = absurd h
+added_told (Err f) reply h = ap (λ (r : Result Reply Fault). told r []) h
+
+pub dropped_told : (r : Result ℕ Fault) (reply : Result Reply Fault) → MatchResult r (λ n. IsOkAnd reply (λ q. q ≡ WasDropped n)) (λ f. reply ≡ Err f) → told reply [] ≡ dropped_answer r
+dropped_told (Ok n) (Ok q) h = ap (λ (q : Reply). told (Ok q) []) h
+dropped_told (Ok n) (Err f) h = absurd h
+dropped_told (Err f) reply h = ap (λ (r : Result Reply Fault). told r []) h
+
 pub is_question : (q : Question) → IsQuestion (question_of q)
 is_question (Place x) = place?
 is_question (Neighbours x) = neighbours?
 is_question (Outline l) = outline?
 is_question (Rounds l) = rounds?
-
--- no call was made
-pub ran_none : (m : Meaning) (s : ℕ → Bool) → ((p : ℕ) → s p ≡ false) → Ran m (record { calls = []; answers = [] }) s
-ran_none m s out =
-    record {
-      full = refl;
-      right = λ i c a t here has. let lt = here.0 in absurd (omega arith);
-      has = λ p. (λ h. absurd (subst T (out p) h), λ (i, (a, here, _), _). let lt = here.0 in absurd (omega arith));
-    }
 
 -- one call more
 pub ran_more : (m : Meaning) (h : History) (s t : ℕ → Bool) (c : TheCall) (a : TheAnswer) → Ran m h s → Called m s t c a → Ran m (then h c a) t

@@ -1,6 +1,7 @@
 -- The answers that write into the caller's list, and the hull of no mark.
 use Rattle.std.proofs.Common.{◌≡◌, ℕ, ◌<◌, ◌≤◌, Bool, false, T, List, [], ◌∷◌, ◌++◌, length, take, drop as behind, Ok, Err, Result, sym, ap, ◌∙◌, subst, subst₂, arith, take-append-drop}
 use native.Mathlib.Decide.{dec_lt}
+use Rattle.std.specs.Result.{IsErrAnd}
 use Rattle.laws.specs.Systems.{Meaning}
 use Rattle.laws.specs.Outlines.{none}
 use Rattle.cc.specs.declared.faults.Fault.{Fault}
@@ -47,3 +48,8 @@ module _ (m : Meaning) (s : ℕ → Bool) (x : ℕ) (f : Fault) where
         | yes h ↦ let (i, e) = out h in subst (λ g. Answers m s c (declined g [])) (sym e) (absent needs h (λ k. subst T i k))
         | no h ↦ subst (λ g. Answers m s c (declined g [])) (sym (far (omega arith))) (stranger asks (omega arith))
       ]
+
+-- the error of a `?` is the fault that came
+pub refused : {X : Type 0} (r : Result X Fault) (f : Fault) → IsErrAnd r (λ e. e ≡ f) → r ≡ Err f
+refused (Ok x) f h = absurd h
+refused (Err e) f h = ap Err h

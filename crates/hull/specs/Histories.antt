@@ -1,5 +1,5 @@
 -- Histories as the code holds them: calls, and the answers that were recorded.
-use Rattle.std.specs.Prelude.{◌≡◌, ℕ, Bool, List, map, length, vec_items}
+use Rattle.std.specs.Prelude.{◌≡◌, ℕ, Bool, List, map, length, vec_items, Ok, Err, Result}
 use Rattle.laws.specs.Systems.{Meaning}
 use Rattle.cc.specs.declared.faults.Fault.{Fault}
 use Rattle.runs.specs.Calls.{add, drop, place, neighbours, outline, rounds, added, dropped, at, within, beside, wrote, declined, OneMore, Answers}
@@ -12,7 +12,7 @@ use Rattle.hull.specs.declared.histories.Question.TheVariants.{Place, Neighbours
 use Rattle.hull.specs.declared.histories.Call.{Call}
 use Rattle.hull.specs.declared.histories.Call.TheVariants.{Add, Drop, Ask}
 use Rattle.hull.specs.declared.histories.Reply.{Reply}
-use Rattle.hull.specs.declared.histories.Reply.TheVariants.{Added, Dropped, Placed, Beside, Wrote, Declined}
+use Rattle.hull.specs.declared.histories.Reply.TheVariants.{Added, Dropped, Placed, Beside, Wrote}
 use Rattle.hull.specs.declared.histories.Answer.{Answer}
 use Rattle.hull.specs.Replies.{side_of}
 
@@ -27,15 +27,15 @@ call_of (Add x) = add x
 call_of (Drop x) = drop x
 call_of (Ask q) = question_of q
 
--- a reply, with what the caller's list holds afterwards
-abbrev pub told : Reply → List ℕ → TheAnswer
-told (Added a) l = added (side_of a.side) a.left
-told (Dropped n) l = dropped n
-told (Placed (EdgeAt i)) l = at i
-told (Placed (InsideOf a b)) l = within a b
-told (Beside a b) l = beside a b
-told (Wrote n) l = wrote n l
-told (Declined f) l = declined f l
+-- a reply or a refusal, with what the caller's list holds afterwards
+abbrev pub told : Result Reply Fault → List ℕ → TheAnswer
+told (Ok (Added a)) l = added (side_of a.side) a.left
+told (Ok (Dropped n)) l = dropped n
+told (Ok (Placed (EdgeAt i))) l = at i
+told (Ok (Placed (InsideOf a b))) l = within a b
+told (Ok (Beside a b)) l = beside a b
+told (Ok (Wrote n)) l = wrote n l
+told (Err f) l = declined f l
 
 abbrev pub answer_of : Answer → TheAnswer
 answer_of a = told a.reply (vec_items a.list)

@@ -2,6 +2,5 @@ pub mod Rings
 pub mod Records
 pub mod Replies
 pub mod Words
-pub mod Facts
-pub mod Rows
+pub mod Soundness
 pub mod Histories

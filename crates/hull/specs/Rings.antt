@@ -1,5 +1,5 @@
 -- Rings as the code holds them.
-use Rattle.std.specs.Prelude.{ℕ, ◌<◌, Bool, true, false, T, List, [], ◌∷◌, ◌++◌, take}
+use Rattle.std.specs.Prelude.{ℕ, ◌<◌, Bool, true, false, T, List, [], ◌∷◌, ◌++◌}
 use Rattle.laws.specs.Systems.{Meaning}
 use Rattle.laws.specs.Outlines.{Marks, Outline}
 use Rattle.laws.specs.Theorems.{of}
@@ -8,7 +8,7 @@ use Rattle.hull.specs.declared.rings.Ring.{Ring}
 
 -- the marks of the ring, in order
 abbrev pub listed : Ring → List ℕ
-listed r = take r.len r.marks
+listed r = r.marks.items
 
 -- the ring, started at its second mark: at each place the mark that follows
 abbrev pub rotated : List ℕ → List ℕ

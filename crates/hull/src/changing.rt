@@ -3,12 +3,12 @@
 ghost use Rattle.std.specs.Prelude.{◌≡◌, MatchResult};
 ghost use Rattle.runs.specs.Calls.{OneMore, Answers, add, drop};
 ghost use Rattle.hull.specs.Rings.{listed};
-ghost use Rattle.hull.specs.Records.{held, Sound};
+ghost use Rattle.hull.specs.Records.{held};
 ghost use Rattle.hull.specs.Replies.{Exchanged, added_by, added_answer, dropped_answer};
 
 use super::answers::{Added, Side};
+use super::hulls::DynamicHull;
 use super::outlining::outline_of;
-use super::records::HullState;
 use super::rings::Ring;
 use cc::CcSystem;
 use cc::faults::Fault;
@@ -17,17 +17,14 @@ use cc::faults::Fault;
 fn exchanged(without: &Ring, with: &Ring, x: usize) -> Option<usize>
     ensures exchanged { Exchanged (listed without.now) (listed with.now) x result }
 {
-    match with.position(x) {
-        Some(_) => Some((without.len + 1).saturating_sub(with.len)),
-        None => None,
-    }
+    with.position(x).map(|_| (without.marks.len() + 1).saturating_sub(with.marks.len()))
 }
 
-impl Added {
-    // The answer for a mark that pushed so many marks off the ring, or that does not stand on it.
-    fn by(pushed_off: Option<usize>) -> Added
-        ensures by { result ≡ added_by pushed_off }
-    {
+// The answer for a mark that pushed so many marks off the ring, or that does not stand on it.
+impl From<Option<usize>> for Added {
+    ghost from_gives = { λ pushed_off added. added ≡ added_by pushed_off };
+
+    fn from(pushed_off: Option<usize>) -> Added {
         match pushed_off {
             Some(left) => Added {
                 side: Side::Edge,
@@ -41,39 +38,32 @@ impl Added {
     }
 }
 
-impl HullState {
-    // Adds mark x.
-    pub(crate) fn add<S: CcSystem>(&mut self, system: &S, x: usize) -> Result<Added, Fault>
-        requires sound { Sound (S.CcSystem.meaning system.now) self.old.records (listed self.old.ring) }
-        ensures answers { Answers (S.CcSystem.meaning system.now) (held self.old.records) (add x) (added_answer result) }
-        ensures marks { MatchResult result (λ _. OneMore (held self.old.records) x (held self.new.records)) (λ _. self.new ≡ self.old) }
-        ensures sound { Sound (S.CcSystem.meaning system.now) self.new.records (listed self.new.ring) }
+impl<S: CcSystem> DynamicHull<S> {
+    // Puts mark m in.
+    pub fn add(&mut self, m: usize) -> Result<Added, Fault>
+        ensures answer { Answers (S.CcSystem.meaning self.old.system) (held self.old.state.records) (add m) (added_answer result) }
+        ensures marks { MatchResult result (λ _. OneMore (held self.old.state.records) m (held self.new.state.records)) (λ _. self.new.state ≡ self.old.state) }
+        ensures system { self.new.system ≡ self.old.system }
     {
-        if let Err(fault) = self.admits(system, x) {
-            return Err(fault);
-        }
-        let ring = self.ring.grow(system, x);
-        let pushed_off = exchanged(&self.ring, &ring, x);
-        self.set_in(x, true);
-        self.settle(ring);
-        Ok(Added::by(pushed_off))
+        self.state.admits(&self.system, m)?;
+        let ring = self.state.ring.grow(&self.system, m);
+        let pushed_off = exchanged(&self.state.ring, &ring, m);
+        self.state.set_in(m, true);
+        self.state.settle(ring);
+        Ok(Added::from(pushed_off))
     }
 
-    // Drops mark x, and finds the outline of the marks that are left.
-    pub(crate) fn remove<S: CcSystem>(&mut self, system: &S, x: usize) -> Result<usize, Fault>
-        requires sound { Sound (S.CcSystem.meaning system.now) self.old.records (listed self.old.ring) }
-        ensures answers { Answers (S.CcSystem.meaning system.now) (held self.old.records) (drop x) (dropped_answer result) }
-        ensures marks { MatchResult result (λ _. OneMore (held self.new.records) x (held self.old.records)) (λ _. self.new ≡ self.old) }
-        ensures sound { Sound (S.CcSystem.meaning system.now) self.new.records (listed self.new.ring) }
+    // Takes mark m out, and finds the outline of the marks that are left.
+    pub fn drop(&mut self, m: usize) -> Result<usize, Fault>
+        ensures answer { Answers (S.CcSystem.meaning self.old.system) (held self.old.state.records) (drop m) (dropped_answer result) }
+        ensures marks { MatchResult result (λ _. OneMore (held self.new.state.records) m (held self.old.state.records)) (λ _. self.new.state ≡ self.old.state) }
+        ensures system { self.new.system ≡ self.old.system }
     {
-        if let Err(fault) = self.holds(system, x) {
-            return Err(fault);
-        }
-        let old = self.ring;
-        self.set_in(x, false);
-        let flags = self.flags();
-        let ring = outline_of(system, &flags);
-        self.settle(ring);
-        Ok(exchanged(&ring, &old, x).unwrap_or(0))
+        self.state.holds(&self.system, m)?;
+        self.state.set_in(m, false);
+        let ring = outline_of(&self.system, &self.state.flags());
+        let left = exchanged(&ring, &self.state.ring, m).unwrap_or(0);
+        self.state.settle(ring);
+        Ok(left)
     }
 }

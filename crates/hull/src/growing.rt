@@ -1,12 +1,13 @@
 //! One mark more on a ring.
 
-ghost use Rattle.std.specs.Prelude.{◌≡◌, ℕ, ◌+◌, ◌-◌, ◌<◌, ◌≤◌, [], ◌∷◌, ◌++◌, length, MatchOption, slice_index};
+ghost use Rattle.std.specs.Prelude.{◌≡◌, ℕ, ◌+◌, ◌<◌, ◌≤◌, [], ◌∷◌, ◌++◌, length, MatchOption, slice_index};
 ghost use Rattle.laws.specs.Systems.{Three};
 ghost use Rattle.laws.specs.Outlines.{Turned, ReadOut};
 ghost use Rattle.runs.specs.Calls.{On};
-ghost use Rattle.hull.specs.Rings.{listed, rotated, left_on, Beside, GoesRound, Grows};
+ghost use Rattle.hull.specs.Rings.{listed, left_on, Beside, GoesRound, Grows};
 
 use super::rings::Ring;
+use arrayvec::ArrayVec;
 use cc::{CcSystem, Turn};
 
 // Whether x lies to the right of the way from p to q. Every question of a hull to its system is asked here.
@@ -14,10 +15,7 @@ pub(crate) fn lies_right<S: CcSystem>(system: &S, p: usize, q: usize, x: usize) 
     requires three { Three (S.CcSystem.meaning system.now).count p q x }
     ensures right { result ≡ (S.CcSystem.meaning system.now).left p x q }
 {
-    match system.turn(p, q, x) {
-        Some(Turn::Right) => true,
-        _ => false,
-    }
+    matches!(system.turn(p, q, x), Some(Turn::Right))
 }
 
 impl Ring {
@@ -25,31 +23,7 @@ impl Ring {
         ensures none { listed result ≡ [] }
     {
         Ring {
-            marks: [0; 128],
-            len: 0,
-        }
-    }
-
-    // One mark more at the end.
-    fn push(&mut self, x: usize)
-        requires room { self.old.len < 128 }
-        ensures pushed { listed self.new ≡ listed self.old ++ x ∷ [] }
-        ensures longer { self.new.len ≡ self.old.len + 1 }
-    {
-        let at = self.len;
-        self.marks[at] = x;
-        self.len = at + 1;
-    }
-
-    // The mark that follows the one at place i; the first follows the last.
-    pub(crate) fn after(&self, i: usize) -> usize
-        requires within { i < self.now.len }
-        ensures after { result ≡ slice_index (rotated (listed self.now)) i }
-    {
-        if i + 1 < self.len {
-            self.marks[i + 1]
-        } else {
-            self.marks[0]
+            marks: ArrayVec::new(),
         }
     }
 
@@ -57,101 +31,78 @@ impl Ring {
     pub(crate) fn position(&self, x: usize) -> Option<usize>
         ensures place { MatchOption result (On (listed self.now) x → ⊥) (λ i. (i < length (listed self.now)) × (slice_index (listed self.now) i ≡ x)) }
     {
-        for i in 0..self.len {
-            if self.marks[i] == x {
-                return Some(i);
-            }
-        }
-        None
+        self.marks.iter().position(|mark| *mark == x)
     }
 
     // Puts on what a mark of the old ring leaves on the ring around x.
     fn put(&mut self, mark: usize, x: usize, seen_to: bool, seen_from: bool)
-        requires room { self.old.len + length (left_on seen_to seen_from mark x) ≤ 128 }
+        requires room { length (listed self.old) + length (left_on seen_to seen_from mark x) ≤ 128 }
         ensures put { listed self.new ≡ listed self.old ++ left_on seen_to seen_from mark x }
-        ensures longer { self.new.len ≡ self.old.len + length (left_on seen_to seen_from mark x) }
     {
         match (seen_to, seen_from) {
             (true, true) => {}
             (false, true) => {
-                self.push(mark);
-                self.push(x);
+                self.marks.push(mark);
+                self.marks.push(x);
             }
-            (_, false) => self.push(mark),
+            (_, false) => self.marks.push(mark),
         }
     }
-}
 
-impl Ring {
-    // Whether x sees the arc from the mark at place i.
-    fn is_seen<S: CcSystem>(&self, system: &S, i: usize, x: usize) -> bool
-        requires beside { Beside (S.CcSystem.meaning system.now) (listed self.now) x }
-        requires two { 2 ≤ self.now.len }
-        requires within { i < self.now.len }
-        ensures seen { result ≡ (S.CcSystem.meaning system.now).left (slice_index (listed self.now) i) x (slice_index (rotated (listed self.now)) i) }
+    // The marks of the ring, and x after them.
+    fn with_last(&self, x: usize) -> Ring
+        requires room { length (listed self.now) < 128 }
+        ensures appended { listed result ≡ listed self.now ++ x ∷ [] }
     {
-        lies_right(system, self.marks[i], self.after(i), x)
-    }
-
-    // The same, where the answer for the last place is known: no arc is asked about twice.
-    fn is_seen_but_last<S: CcSystem>(&self, system: &S, i: usize, x: usize, last: bool) -> bool
-        requires beside { Beside (S.CcSystem.meaning system.now) (listed self.now) x }
-        requires two { 2 ≤ self.now.len }
-        requires within { i < self.now.len }
-        requires last { last ≡ (S.CcSystem.meaning system.now).left (slice_index (listed self.now) (self.now.len - 1)) x (slice_index (rotated (listed self.now)) (self.now.len - 1)) }
-        ensures seen { result ≡ (S.CcSystem.meaning system.now).left (slice_index (listed self.now) i) x (slice_index (rotated (listed self.now)) i) }
-    {
-        if i + 1 < self.len {
-            return self.is_seen(system, i, x);
+        let mut marks = ArrayVec::new();
+        for mark in self.marks.iter() {
+            marks.push(*mark);
         }
-        last
+        marks.push(x);
+        Ring { marks }
     }
 
     // The ring around its marks and x, from some mark on. Each arc is asked about once.
     fn around<S: CcSystem>(&self, system: &S, x: usize) -> Ring
         requires beside { Beside (S.CcSystem.meaning system.now) (listed self.now) x }
-        requires two { 2 ≤ self.now.len }
+        requires two { 2 ≤ length (listed self.now) }
         ensures around { GoesRound (S.CcSystem.meaning system.now) (listed self.now) x (listed result) }
     {
-        let last = self.is_seen(system, self.len - 1, x);
+        let marks = &self.marks[..];
+        let closing_seen = lies_right(system, marks[marks.len() - 1], marks[0], x);
         let mut new = Ring::empty();
-        let mut seen_to = last;
-        for i in 0..self.len {
-            let seen_from = self.is_seen_but_last(system, i, x, last);
-            new.put(self.marks[i], x, seen_to, seen_from);
+        let mut mark = marks[0];
+        let mut seen_to = closing_seen;
+        for next in &marks[1..] {
+            let seen_from = lies_right(system, mark, *next, x);
+            new.put(mark, x, seen_to, seen_from);
+            mark = *next;
             seen_to = seen_from;
         }
+        new.put(mark, x, seen_to, closing_seen);
         new
     }
 
     // The place of the lowest mark.
-    fn lowest(&self) -> usize
-        ensures lowest { (i : ℕ) → i < length (listed self.now) → slice_index (listed self.now) result ≤ slice_index (listed self.now) i }
-        ensures within { (result ≤ self.now.len) × ((0 < self.now.len → result < self.now.len)) }
+    fn lowest(&self) -> Option<usize>
+        ensures lowest { MatchOption result (length (listed self.now) ≡ 0) (λ i. (i < length (listed self.now)) × ((k : ℕ) → k < length (listed self.now) → slice_index (listed self.now) i ≤ slice_index (listed self.now) k)) }
     {
-        let mut best = 0;
-        for i in 0..self.len {
-            if self.marks[i] < self.marks[best] {
-                best = i;
-            }
-        }
-        best
+        let (place, _) = self
+            .marks
+            .iter()
+            .enumerate()
+            .min_by_key(|(_, mark)| **mark)?;
+        Some(place)
     }
 
-    // The same ring, from its lowest mark on.
-    fn lowest_first(&self) -> Ring
-        ensures same { Turned (listed self.now) (listed result) }
-        ensures lowest { ReadOut (listed result) }
+    // Starts the ring at its lowest mark.
+    fn start_at_lowest(&mut self)
+        ensures same { Turned (listed self.old) (listed self.new) }
+        ensures lowest { ReadOut (listed self.new) }
     {
-        let start = self.lowest();
-        let mut new = Ring::empty();
-        for i in start..self.len {
-            new.push(self.marks[i]);
+        if let Some(place) = self.lowest() {
+            self.marks.rotate_left(place);
         }
-        for i in 0..start {
-            new.push(self.marks[i]);
-        }
-        new
     }
 
     // The ring around its marks and x.
@@ -159,11 +110,12 @@ impl Ring {
         requires beside { Beside (S.CcSystem.meaning system.now) (listed self.now) x }
         ensures grows { Grows (S.CcSystem.meaning system.now) (listed self.now) x (listed result) }
     {
-        if self.len < 2 {
-            let mut new = *self;
-            new.push(x);
-            return new.lowest_first();
-        }
-        self.around(system, x).lowest_first()
+        let mut ring = if self.marks.len() < 2 {
+            self.with_last(x)
+        } else {
+            self.around(system, x)
+        };
+        ring.start_at_lowest();
+        ring
     }
 }

@@ -39,61 +39,13 @@ pub enum Reply {
     Beside(usize, usize),
     // the number that goes with what was written into the list
     Wrote(usize),
-    Declined(Fault),
 }
 
-// A reply, and what the caller's list holds after the call; it is empty where none was handed over.
+// A reply, or why the call was declined; and what the caller's list holds after the call, which is empty where none was handed over.
 #[derive(Drop)]
 pub struct Answer {
-    pub reply: Reply,
+    pub reply: Result<Reply, Fault>,
     pub list: Vec<usize>,
-}
-
-impl Reply {
-    fn to_add(answer: Result<Added, Fault>) -> Reply
-        ensures told { told result [] ≡ added_answer answer }
-    {
-        match answer {
-            Ok(added) => Reply::Added(added),
-            Err(fault) => Reply::Declined(fault),
-        }
-    }
-
-    fn to_drop(answer: Result<usize, Fault>) -> Reply
-        ensures told { told result [] ≡ dropped_answer answer }
-    {
-        match answer {
-            Ok(came) => Reply::Dropped(came),
-            Err(fault) => Reply::Declined(fault),
-        }
-    }
-
-    fn to_place(answer: Result<Placed, Fault>) -> Reply
-        ensures told { told result [] ≡ placed_answer answer }
-    {
-        match answer {
-            Ok(placed) => Reply::Placed(placed),
-            Err(fault) => Reply::Declined(fault),
-        }
-    }
-
-    fn to_neighbours(answer: Result<(usize, usize), Fault>) -> Reply
-        ensures told { told result [] ≡ neighbours_answer answer }
-    {
-        match answer {
-            Ok((before, after)) => Reply::Beside(before, after),
-            Err(fault) => Reply::Declined(fault),
-        }
-    }
-
-    fn to_list(answer: Result<usize, Fault>) -> Reply
-        ensures told { (l : List ℕ) → told result l ≡ list_answer answer l }
-    {
-        match answer {
-            Ok(number) => Reply::Wrote(number),
-            Err(fault) => Reply::Declined(fault),
-        }
-    }
 }
 
 // Puts a question to a hull, with a copy of the list that goes with it.
@@ -106,21 +58,23 @@ fn ask<S: CcSystem>(
 {
     match question {
         Question::Place(mark) => Ok(Answer {
-            reply: Reply::to_place(hull.place(*mark)),
+            reply: hull.place(*mark).map(Reply::Placed),
             list: Vec::new(heap),
         }),
         Question::Neighbours(mark) => Ok(Answer {
-            reply: Reply::to_neighbours(hull.neighbours(*mark)),
+            reply: hull
+                .neighbours(*mark)
+                .map(|(before, after)| Reply::Beside(before, after)),
             list: Vec::new(heap),
         }),
         Question::Outline(list) => {
             let mut list = Vec::from_slice(heap, list)?;
-            let reply = Reply::to_list(hull.outline(&mut list));
+            let reply = hull.outline(&mut list).map(Reply::Wrote);
             Ok(Answer { reply, list })
         }
         Question::Rounds(list) => {
             let mut list = Vec::from_slice(heap, list)?;
-            let reply = Reply::to_list(hull.rounds(&mut list));
+            let reply = hull.rounds(&mut list).map(Reply::Wrote);
             Ok(Answer { reply, list })
         }
     }
@@ -137,11 +91,11 @@ fn carry_out<S: CcSystem>(
 {
     match call {
         Call::Add(mark) => Ok(Answer {
-            reply: Reply::to_add(hull.add(*mark)),
+            reply: hull.add(*mark).map(Reply::Added),
             list: Vec::new(heap),
         }),
         Call::Drop(mark) => Ok(Answer {
-            reply: Reply::to_drop(hull.drop(*mark)),
+            reply: hull.drop(*mark).map(Reply::Dropped),
             list: Vec::new(heap),
         }),
         Call::Ask(question) => ask(heap, hull, question),

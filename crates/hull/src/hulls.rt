@@ -1,17 +1,15 @@
 //! The dynamic hull.
 
-ghost use Rattle.std.specs.Prelude.{◌≡◌, ℕ, false, take, MatchResult};
-ghost use Rattle.runs.specs.Calls.{OneMore, Answers, add, drop, place, neighbours, outline, rounds};
+ghost use Rattle.std.specs.Prelude.{◌≡◌, ℕ, false};
+ghost use Rattle.runs.specs.Calls.{Answers, outline, rounds};
 ghost use Rattle.hull.specs.Rings.{listed};
 ghost use Rattle.hull.specs.Records.{held, Sound};
-ghost use Rattle.hull.specs.Replies.{added_answer, dropped_answer, placed_answer, neighbours_answer, list_answer};
-ghost use Rattle.hull.specs.Rows.{rows_of};
+ghost use Rattle.hull.specs.Replies.{list_answer};
+ghost use Rattle.hull.specs.Soundness.{Sound-prop};
 ghost use Rattle.hull.specs.Words.{Census};
 
-use super::answers::{Added, Placed};
 use super::peeling::rounds_of;
 use super::records::HullState;
-use super::seals::Seal;
 use cc::CcSystem;
 use cc::faults::Fault;
 
@@ -19,12 +17,9 @@ use cc::faults::Fault;
 // not declined until the next such drop.
 #[derive(Drop)]
 pub struct DynamicHull<S: CcSystem> {
-    system: S,
-    state: HullState,
-    seal: Seal<S>,
-    ghost sealed: { (seal.system ≡ system) },
-    ghost tied: { (seal.rows ≡ rows_of state.records) },
-    ghost ringed: { (seal.ring ≡ take state.ring.len state.ring.marks) },
+    pub(crate) system: S,
+    pub(crate) state: HullState,
+    ghost sound: { Sound (S.CcSystem.meaning system) state.records (listed state.ring) } by { Sound-prop (S.CcSystem.meaning system) state.records (listed state.ring) },
 }
 
 impl<S: CcSystem> DynamicHull<S> {
@@ -33,12 +28,9 @@ impl<S: CcSystem> DynamicHull<S> {
         ensures system { result.system ≡ system }
         ensures none { (p : ℕ) → held result.state.records p ≡ false }
     {
-        let state = HullState::empty();
-        let seal = Seal::of(&system, &state);
         DynamicHull {
             system,
-            state,
-            seal,
+            state: HullState::empty(),
         }
     }
 
@@ -46,66 +38,13 @@ impl<S: CcSystem> DynamicHull<S> {
     pub fn take_off(self) -> S
         ensures system { result ≡ self.system }
     {
-        let DynamicHull {
-            system,
-            state: _,
-            seal: _,
-        } = self;
-        system
-    }
-
-    // What the seal says of the hull's own system and marks.
-    fn sound(&self)
-        ensures sound { Sound (S.CcSystem.meaning self.now.system) self.now.state.records (listed self.now.state.ring) }
-    {
-        self.seal.says();
-    }
-
-    // Puts mark m in.
-    pub fn add(&mut self, m: usize) -> Result<Added, Fault>
-        ensures answer { Answers (S.CcSystem.meaning self.old.system) (held self.old.state.records) (add m) (added_answer result) }
-        ensures marks { MatchResult result (λ _. OneMore (held self.old.state.records) m (held self.new.state.records)) (λ _. self.new.state ≡ self.old.state) }
-        ensures system { self.new.system ≡ self.old.system }
-    {
-        self.sound();
-        let answer = self.state.add(&self.system, m);
-        self.seal = Seal::of(&self.system, &self.state);
-        answer
-    }
-
-    // Takes mark m out.
-    pub fn drop(&mut self, m: usize) -> Result<usize, Fault>
-        ensures answer { Answers (S.CcSystem.meaning self.old.system) (held self.old.state.records) (drop m) (dropped_answer result) }
-        ensures marks { MatchResult result (λ _. OneMore (held self.new.state.records) m (held self.old.state.records)) (λ _. self.new.state ≡ self.old.state) }
-        ensures system { self.new.system ≡ self.old.system }
-    {
-        self.sound();
-        let answer = self.state.remove(&self.system, m);
-        self.seal = Seal::of(&self.system, &self.state);
-        answer
-    }
-
-    // Where mark m stands.
-    pub fn place(&self, m: usize) -> Result<Placed, Fault>
-        ensures answer { Answers (S.CcSystem.meaning self.now.system) (held self.now.state.records) (place m) (placed_answer result) }
-    {
-        self.sound();
-        self.state.place(&self.system, m)
-    }
-
-    // The mark before m and the mark after it on the outline.
-    pub fn neighbours(&self, m: usize) -> Result<(usize, usize), Fault>
-        ensures answer { Answers (S.CcSystem.meaning self.now.system) (held self.now.state.records) (neighbours m) (neighbours_answer result) }
-    {
-        self.sound();
-        self.state.neighbours(&self.system, m)
+        self.system
     }
 
     // Writes the outline at the front of the list, from its lowest mark on; its length.
     pub fn outline(&self, list: &mut [usize]) -> Result<usize, Fault>
         ensures answer { Answers (S.CcSystem.meaning self.now.system) (held self.now.state.records) (outline list.old) (list_answer result list.new) }
     {
-        self.sound();
         self.state.ring.copy_to(list)
     }
 
@@ -113,7 +52,6 @@ impl<S: CcSystem> DynamicHull<S> {
     pub fn rounds(&self, list: &mut [usize]) -> Result<usize, Fault>
         ensures answer { Answers (S.CcSystem.meaning self.now.system) (held self.now.state.records) (rounds list.old) (list_answer result list.new) }
     {
-        self.sound();
         let count = self.system.count();
         if list.len() < count {
             return Err(Fault::Tight(count));

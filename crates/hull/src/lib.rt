@@ -13,6 +13,5 @@ mod peeling;
 mod placing;
 mod records;
 mod rings;
-mod seals;
 mod states;
 mod writing;

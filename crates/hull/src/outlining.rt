@@ -16,9 +16,9 @@ pub(crate) fn outline_of<S: CcSystem>(system: &S, flags: &[bool; 128]) -> Ring
     ensures ring { RingOf (S.CcSystem.meaning system.now) (flagged flags.now) (listed result) }
 {
     let mut ring = Ring::empty();
-    for p in 0..system.count() {
-        if flags[p] {
-            ring = ring.grow(system, p);
+    for (mark, is_in) in flags[..system.count()].iter().enumerate() {
+        if *is_in {
+            ring = ring.grow(system, mark);
         }
     }
     ring

@@ -11,27 +11,15 @@ use super::outlining::outline_of;
 use super::rings::Ring;
 use cc::CcSystem;
 
-// Clears the first n entries.
-fn clear(entries: &mut [usize], n: usize)
-    requires room { n ≤ length entries.old }
-    ensures cleared { (p : ℕ) → p < n → slice_index entries.new p ≡ 0 }
-    ensures others { (p : ℕ) → n ≤ p → slice_index entries.new p ≡ slice_index entries.old p }
-{
-    for i in 0..n {
-        entries[i] = 0;
-    }
-}
-
 // Enters the round of the ring's marks, and takes them off the flags.
 fn peel(ring: &Ring, round: usize, flags: &mut [bool; 128], entries: &mut [usize])
     requires small { (i : ℕ) → i < length (listed ring.now) → (slice_index (listed ring.now) i < 128) × (slice_index (listed ring.now) i < length entries.old) }
     ensures on { (p : ℕ) → On (listed ring.now) p → (slice_index entries.new p ≡ round) × (flagged flags.new p ≡ false) }
     ensures off { (p : ℕ) → (On (listed ring.now) p → ⊥) → (slice_index entries.new p ≡ slice_index entries.old p) × (flagged flags.new p ≡ flagged flags.old p) }
 {
-    for i in 0..ring.len {
-        let mark = ring.marks[i];
-        entries[mark] = round;
-        flags[mark] = false;
+    for mark in ring.marks.iter() {
+        entries[*mark] = round;
+        flags[*mark] = false;
     }
 }
 
@@ -47,10 +35,10 @@ pub(crate) fn rounds_of<S: CcSystem>(
     ensures rest { drop (S.CcSystem.meaning system.now).count entries.new ≡ drop (S.CcSystem.meaning system.now).count entries.old }
 {
     let count = system.count();
-    clear(entries, count);
+    entries[..count].fill(0);
     for round in 0..count {
         let ring = outline_of(system, flags);
-        if ring.len == 0 {
+        if ring.marks.is_empty() {
             return round;
         }
         peel(&ring, round + 1, flags, entries);

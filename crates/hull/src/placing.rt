@@ -3,12 +3,13 @@
 ghost use Rattle.std.specs.Prelude.{◌≡◌, ℕ, ◌+◌, ◌<◌, ◌≤◌};
 ghost use Rattle.runs.specs.Calls.{Answers, Fan, place, neighbours};
 ghost use Rattle.hull.specs.Rings.{listed, Within};
-ghost use Rattle.hull.specs.Records.{held, Sound};
+ghost use Rattle.hull.specs.Records.{held};
 ghost use Rattle.hull.specs.Replies.{placed_answer, neighbours_answer};
 
 use super::answers::Placed;
 use super::growing::lies_right;
-use super::records::{HullState, Record};
+use super::hulls::DynamicHull;
+use super::records::Record;
 use super::rings::Ring;
 use cc::CcSystem;
 use cc::faults::Fault;
@@ -20,18 +21,18 @@ impl Ring {
         requires within { Within (S.CcSystem.meaning system.now) (listed self.now) x }
         ensures fan { Fan (S.CcSystem.meaning system.now) x result.0 result.1 (listed self.now) }
     {
-        let first = self.marks[0];
+        let marks = &self.marks[..];
         let mut low = 1;
-        let mut high = self.len - 1;
+        let mut high = marks.len() - 1;
         while low + 1 < high {
             let middle = low + (high - low) / 2;
-            if lies_right(system, first, self.marks[middle], x) {
+            if lies_right(system, marks[0], marks[middle], x) {
                 high = middle;
             } else {
                 low = middle;
             }
         }
-        (self.marks[low], self.marks[high])
+        (marks[low], marks[high])
     }
 }
 
@@ -45,37 +46,29 @@ impl Record {
     }
 }
 
-impl HullState {
-    // Where mark x stands.
-    pub(crate) fn place<S: CcSystem>(&self, system: &S, x: usize) -> Result<Placed, Fault>
-        requires sound { Sound (S.CcSystem.meaning system.now) self.now.records (listed self.now.ring) }
-        ensures answers { Answers (S.CcSystem.meaning system.now) (held self.now.records) (place x) (placed_answer result) }
+impl<S: CcSystem> DynamicHull<S> {
+    // Where mark m stands.
+    pub fn place(&self, m: usize) -> Result<Placed, Fault>
+        ensures answer { Answers (S.CcSystem.meaning self.now.system) (held self.now.state.records) (place m) (placed_answer result) }
     {
-        if let Err(fault) = self.holds(system, x) {
-            return Err(fault);
+        self.state.holds(&self.system, m)?;
+        match self.state.ring.position(m) {
+            Some(at) => Ok(Placed::Edge(at)),
+            None => {
+                let (a, b) = self.state.ring.fan(&self.system, m);
+                Ok(Placed::Inside(a, b))
+            }
         }
-        if let Some(i) = self.ring.position(x) {
-            return Ok(Placed::Edge(i));
-        }
-        let (a, b) = self.ring.fan(system, x);
-        Ok(Placed::Inside(a, b))
     }
 
-    // The marks before x and after it on the outline.
-    pub(crate) fn neighbours<S: CcSystem>(
-        &self,
-        system: &S,
-        x: usize,
-    ) -> Result<(usize, usize), Fault>
-        requires sound { Sound (S.CcSystem.meaning system.now) self.now.records (listed self.now.ring) }
-        ensures answers { Answers (S.CcSystem.meaning system.now) (held self.now.records) (neighbours x) (neighbours_answer result) }
+    // The mark before m and the mark after it on the outline.
+    pub fn neighbours(&self, m: usize) -> Result<(usize, usize), Fault>
+        ensures answer { Answers (S.CcSystem.meaning self.now.system) (held self.now.state.records) (neighbours m) (neighbours_answer result) }
     {
-        if let Err(fault) = self.holds(system, x) {
-            return Err(fault);
+        self.state.holds(&self.system, m)?;
+        match self.state.ring.position(m) {
+            Some(_) => Ok(self.state.records[m].neighbours()),
+            None => Err(Fault::OffTheEdge(m)),
         }
-        let Some(_) = self.ring.position(x) else {
-            return Err(Fault::OffTheEdge(x));
-        };
-        Ok(self.records[x].neighbours())
     }
 }

@@ -13,7 +13,7 @@ pub struct Record {
 }
 
 // The records of all marks, and the outline of those that are in, from its lowest mark on.
-#[derive(Clone, Copy)]
+#[derive(Drop)]
 pub struct HullState {
     pub(crate) records: [Record; 128],
     pub(crate) ring: Ring,

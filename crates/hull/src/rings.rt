@@ -1,12 +1,9 @@
-//! A ring of marks as a list in an array.
+//! A ring of marks.
 
-ghost use Rattle.std.specs.Prelude.{◌≡◌, ◌≤◌, length};
+use arrayvec::ArrayVec;
 
-// The marks of a ring in their order: the first `len` of the array.
-#[derive(Clone, Copy)]
+// The marks of a ring in their order.
+#[derive(Drop)]
 pub struct Ring {
-    pub(crate) marks: [usize; 128],
-    pub(crate) len: usize,
-    ghost long: { length marks ≡ 128 },
-    ghost few: { len ≤ 128 },
+    pub(crate) marks: ArrayVec<usize, 128>,
 }

@@ -27,11 +27,7 @@ impl HullState {
     pub(crate) fn flags(&self) -> [bool; 128]
         ensures flags { (p : ℕ) → flagged result p ≡ held self.now.records p }
     {
-        let mut flags = [false; 128];
-        for p in 0..128 {
-            flags[p] = self.records[p].is_in;
-        }
-        flags
+        self.records.map(|record| record.is_in)
     }
 
     // Mark x is in, or out.
@@ -63,9 +59,14 @@ impl HullState {
         ensures links { Linked self.new.records (listed ring) }
         ensures marks { (p : ℕ) → held self.new.records p ≡ held self.old.records p }
     {
-        self.ring = ring;
-        for i in 0..ring.len {
-            self.link(ring.marks[i], ring.after(i));
+        if let [first, rest @ ..] = &ring.marks[..] {
+            let mut mark = *first;
+            for next in rest {
+                self.link(mark, *next);
+                mark = *next;
+            }
+            self.link(mark, *first);
         }
+        self.ring = ring;
     }
 }

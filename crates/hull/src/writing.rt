@@ -15,11 +15,11 @@ impl Ring {
     pub(crate) fn copy_to(&self, list: &mut [usize]) -> Result<usize, Fault>
         ensures copied { Copied (listed self.now) list.old list.new result }
     {
-        let n = self.len;
+        let n = self.marks.len();
         if list.len() < n {
             return Err(Fault::Tight(n));
         }
-        list[0..n].copy_from_slice(&self.marks[0..n]);
+        list[..n].copy_from_slice(&self.marks);
         Ok(n)
     }
 }
@@ -30,13 +30,10 @@ impl HullState {
         requires small { base ≤ 64 }
         ensures word { result ≡ word_of (held self.now.records) base 64 }
     {
-        let mut word = 0u64;
-        for k in 0..64 {
-            if self.records[base + k].is_in {
-                word |= 1 << k;
-            }
-        }
-        word
+        self.records[base..base + 64]
+            .iter()
+            .rev()
+            .fold(0, |word, record| word << 1 | u64::from(record.is_in))
     }
 
     // The marks from 64 on, as bits.

@@ -47,7 +47,7 @@ pub fn show_fault(rt: &HostRuntime, name: &str, fault: Option<Fault>) -> anyhow:
 pub fn show_answer(rt: &HostRuntime, name: &str, answer: &Answer) -> anyhow::Result<()> {
     let list = &answer.list;
     match answer.reply {
-        Reply::Added(added) => {
+        Ok(Reply::Added(added)) => {
             let side = match added.side {
                 Side::Edge => "edge",
                 Side::Inside => "inside",
@@ -55,12 +55,12 @@ pub fn show_answer(rt: &HostRuntime, name: &str, answer: &Answer) -> anyhow::Res
             let left = added.left;
             println!(rt; "{name}\tadd\t{side}\t{left}")?
         }
-        Reply::Dropped(came) => println!(rt; "{name}\tdrop\t{came}")?,
-        Reply::Placed(Placed::Edge(i)) => println!(rt; "{name}\tplace\tedge\t{i}")?,
-        Reply::Placed(Placed::Inside(a, b)) => println!(rt; "{name}\tplace\tinside\t{a}\t{b}")?,
-        Reply::Beside(a, b) => println!(rt; "{name}\tneighbours\t{a}\t{b}")?,
-        Reply::Wrote(n) => println!(rt; "{name}\twrote\t{n}\t{list:?}")?,
-        Reply::Declined(fault) => {
+        Ok(Reply::Dropped(came)) => println!(rt; "{name}\tdrop\t{came}")?,
+        Ok(Reply::Placed(Placed::Edge(i))) => println!(rt; "{name}\tplace\tedge\t{i}")?,
+        Ok(Reply::Placed(Placed::Inside(a, b))) => println!(rt; "{name}\tplace\tinside\t{a}\t{b}")?,
+        Ok(Reply::Beside(a, b)) => println!(rt; "{name}\tneighbours\t{a}\t{b}")?,
+        Ok(Reply::Wrote(n)) => println!(rt; "{name}\twrote\t{n}\t{list:?}")?,
+        Err(fault) => {
             let number = fault.number();
             let places = fault.places();
             println!(rt; "{name}\tno\t{number}\t{places:?}\t{list:?}")?

@@ -3,41 +3,32 @@ use Rattle.runs.specs.Calls.{add, drop}
 use Rattle.hull.specs.Records.{held}
 use Rattle.hull.specs.Replies.{added_answer, dropped_answer}
 use Rattle.hull.specs.Histories.{call_of, question_of, told, answer_of, asks}
-use Rattle.hull.proofs.Recording.{added_moved, dropped_moved, is_question, called_by, made_so}
+use Rattle.hull.proofs.Recording.{added_moved, dropped_moved, added_told, dropped_told, is_question, called_by, made_so}
 use Rattle.hull.proofs.histories.carry_out.Goals as goal
 
-pub returns-in-Add : goal.returns-in-Add
-returns-in-Add g c =
+pub returns-in-Add-clause-called : goal.returns-in-Add-clause-called
+returns-in-Add-clause-called g c =
     let old = c.args.hull.now in
     let new = c.add.new.self in
     let x = c.in-Add.mark in
-    record {
-      called = called_by (g.S.CcSystem.meaning old.system) (held old.state.records) (held new.state.records) (add x) (call_of c.args.call.now) (added_answer c.add.result) _
-          (ap call_of c.in-Add.is) (ap (told c.to_add.result) c.new.ensures.items ∙ c.to_add.ensures.told) c.add.ensures.answer
-          (added_moved x old.state new.state c.add.result c.add.ensures.marks);
-      system = c.add.ensures.system;
-    }
+    called_by (g.S.CcSystem.meaning old.system) (held old.state.records) (held new.state.records) (add x) (call_of c.args.call.now) (added_answer c.add.result) _
+    (ap call_of c.in-Add.is) (ap (told c.map.result) c.new.ensures.items ∙ added_told c.add.result c.map.result c.map.ensures.cases) c.add.ensures.answer
+    (added_moved x old.state new.state c.add.result c.add.ensures.marks)
 
-pub returns-in-Drop : goal.returns-in-Drop
-returns-in-Drop g c =
+pub returns-in-Drop-clause-called : goal.returns-in-Drop-clause-called
+returns-in-Drop-clause-called g c =
     let old = c.args.hull.now in
     let new = c.drop.new.self in
     let x = c.in-Drop.mark in
-    record {
-      called = called_by (g.S.CcSystem.meaning old.system) (held old.state.records) (held new.state.records) (drop x) (call_of c.args.call.now) (dropped_answer c.drop.result) _
-          (ap call_of c.in-Drop.is) (ap (told c.to_drop.result) c.new-in-Drop.ensures.items ∙ c.to_drop.ensures.told) c.drop.ensures.answer
-          (dropped_moved x old.state new.state c.drop.result c.drop.ensures.marks);
-      system = c.drop.ensures.system;
-    }
+    called_by (g.S.CcSystem.meaning old.system) (held old.state.records) (held new.state.records) (drop x) (call_of c.args.call.now) (dropped_answer c.drop.result) _
+    (ap call_of c.in-Drop.is) (ap (told c.map-in-Drop.result) c.new-in-Drop.ensures.items ∙ dropped_told c.drop.result c.map-in-Drop.result c.map-in-Drop.ensures.cases) c.drop.ensures.answer
+    (dropped_moved x old.state new.state c.drop.result c.drop.ensures.marks)
 
-pub returns-in-Ask : goal.returns-in-Ask
-returns-in-Ask g c =
+pub returns-in-Ask-clause-called : goal.returns-in-Ask-clause-called
+returns-in-Ask-clause-called g c =
     let h = c.args.hull.now in
     let q = c.in-Ask.question in
     let s = held h.state.records in
-    record {
-      called = made_so c.ask.result
-          (λ a k. called_by (g.S.CcSystem.meaning h.system) s s (question_of q) (call_of c.args.call.now) (answer_of a) (answer_of a) (ap call_of c.in-Ask.is) refl k (asks (is_question q) refl))
-          c.ask.ensures.answer;
-      system = refl;
-    }
+    made_so c.ask.result
+    (λ a k. called_by (g.S.CcSystem.meaning h.system) s s (question_of q) (call_of c.args.call.now) (answer_of a) (answer_of a) (ap call_of c.in-Ask.is) refl k (asks (is_question q) refl))
+    c.ask.ensures.answer

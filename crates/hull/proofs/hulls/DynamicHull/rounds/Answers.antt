@@ -14,7 +14,7 @@ rounds_of-requires g c =
     let h = c.args.self.now in
     let m = g.S.CcSystem.meaning h.system in
     record {
-      marks = subst (λ s. Marks m (of s)) (sym (fun_ext c.flags-flags.ensures.flags)) c.sound.ensures.sound.marks;
+      marks = subst (λ s. Marks m (of s)) (sym (fun_ext c.flags-flags.ensures.flags)) h.sound.marks;
       room = omega (arith, c.count-count.ensures.marks, c.if-list-count.false);
     }
 

@@ -1,45 +1,45 @@
-use Rattle.std.proofs.Common.{◌≡◌, ◌<◌, length, get_or, sym, ◌∙◌, subst, arith}
-use Rattle.hull.specs.Rings.{listed, rotated}
-use Rattle.hull.specs.Records.{held, with_after, with_before}
-use Rattle.hull.proofs.Lists.{listed_length, listed_at}
-use Rattle.hull.proofs.Links.{LinkAt, link_more, all_linked, tied_held, small_next}
+use Rattle.std.proofs.Common.{◌≡◌, ◌+◌, ◌-◌, ◌<◌, length, get_or, take, drop, sym, ap, ◌∙◌, subst, arith}
+use Rattle.std.proofs.lemmas.Grind.{common_steps}
+use Rattle.hull.specs.Rings.{listed}
+use Rattle.hull.specs.declared.records.HullState.{HullState}
+use Rattle.hull.specs.Records.{Linked}
+use Rattle.hull.proofs.Lists.{rotated_next, rotated_last}
+use Rattle.hull.proofs.Links.{link_more, link_held, all_linked}
 use Rattle.hull.proofs.records.HullState.settle.Goals as goal
+use Rattle.hull.proofs.records.HullState.settle.Goals.{in_default, in-len1-up+else-loop-next-test}
 
-pub link-requires : goal.link-requires
-link-requires c =
-    let r = c.args.ring in
-    let i = c.loop-i.i in
-    let h : i < length (listed r) = omega (arith, listed_length r, c.loop-i-test.true) in
+pub loop-next-preserved : goal.loop-next-preserved
+loop-next-preserved c =
+    let l = listed c.args.ring in
+    let i = c.loop-next.next-index in
+    let k = c.deref.result.now in
+    let p = c.loop-next.mark in
+    let q = get_or (take (length k - 1) (drop 1 k)) i 0 in
+    let long : length k ≡ length l = ap length c.deref.ensures.0 in
+    let h : i + 1 < length l = grind (arith, common_steps, c.loop-next-test.true) in
+    let next_is : q ≡ get_or l (i + 1) 0 = grind (arith, common_steps) in
+    let rec = c.requires.recorded in
+    let rs = c.loop-next.self.records in
     record {
-      small = (
-        subst (λ p. p < 128) (sym (listed_at r i c.loop-i-test.true)) (c.requires.recorded.small i h),
-        subst (λ p. p < 128) (sym c.after.ensures.after) (small_next (listed r) c.requires.recorded i h),
-      );
+      mark = next_is;
+      linked = link_more rs l i p q c.loop-next.self.long rec (omega arith) c.loop-next.invariant.mark (next_is ∙ sym (rotated_next l i h)) c.link.new.self.records c.link.ensures.records c.loop-next.invariant.linked;
+      held = λ r. link_held rs c.link.new.self.records p q c.loop-next.self.long (omega (arith, c.loop-next.invariant.mark, rec.small i)) (omega (arith, next_is, rec.small (i + 1))) c.link.ensures.records r ∙ c.loop-next.invariant.held r;
     }
 
-pub loop-i-preserved : goal.loop-i-preserved
-loop-i-preserved c =
-    let r = c.args.ring in
-    let l = listed r in
-    let i = c.loop-i.i in
-    let rs = c.loop-i.self.records in
-    let p = get_or l i 0 in
-    let q = get_or (rotated l) i 0 in
-    let h : i < length l = omega (arith, listed_length r, c.loop-i-test.true) in
-    let hp : p < length rs = omega (arith, c.requires.recorded.small i h, c.loop-i.self.long) in
-    let hq : q < length rs = omega (arith, small_next l c.requires.recorded i h, c.loop-i.self.long) in
-    let e : c.link.new.self.records ≡ with_before (with_after rs p q) q p =
-    c.link.ensures.records ∙ (λ j. with_before (with_after rs (listed_at r i c.loop-i-test.true j) (c.after.ensures.after j)) (c.after.ensures.after j) (listed_at r i c.loop-i-test.true j)) in (
-      c.link.ensures.ring ∙ c.loop-i.invariant.0,
-      λ k lt. subst (λ t. LinkAt t l k) (sym e) (link_more rs l i c.requires.recorded h hp hq c.loop-i.invariant.1 k lt),
-      λ k. subst (λ t. held t k ≡ held rs k) (sym e) (tied_held rs p q hp hq k) ∙ c.loop-i.invariant.2 k,
-    )
-
-pub returns : goal.returns
-returns c =
-    let r = c.args.ring in
-    record {
-      ring = c.loop-i.invariant.0;
-      links = all_linked c.loop-i.self.records (listed r) (λ k h. c.loop-i.invariant.1 k (omega (arith, listed_length r, c.loop-i-test.false)));
-      marks = c.loop-i.invariant.2;
-    }
+pub returns-clause-links : goal.returns-clause-links
+returns-clause-links c =
+    let l = listed c.args.ring in
+    let k = c.deref.result.now in
+    let long : length k ≡ length l = ap length c.deref.ensures.0 in
+    let first : get_or k 0 0 ≡ get_or l 0 0 = ap (λ l. get_or l 0 0) c.deref.ensures.0 in
+    elim c.if-deref-lt1.branch [
+      | in_default w ↦ all_linked c.if-deref-lt1.self.records l (λ i h. absurd (let j = w.in_default.len_below in omega arith))
+      | in-len1-up+else-loop-next-test w ↦
+          let i = w.loop-next.next-index in
+          let n : i + 1 ≡ length l = grind (arith, common_steps, w.loop-next-test.false, w.loop-next.auto.next-index-end, w.in-len1-up.len_at_least) in
+          let new = w.link-in-len1-up.new.self.records in
+          subst (λ (s : HullState). Linked s.records l) (sym w.self-is)
+          (all_linked new l (λ j h.
+          link_more w.loop-next.self.records l i w.loop-next.mark (get_or k 0 0) w.loop-next.self.long c.requires.recorded (omega arith) w.loop-next.invariant.mark
+          (first ∙ sym (rotated_last l i (omega arith) (omega arith))) new w.link-in-len1-up.ensures.records w.loop-next.invariant.linked j (omega arith)))
+    ]

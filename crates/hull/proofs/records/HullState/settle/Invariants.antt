@@ -1,10 +1,12 @@
-use Rattle.std.proofs.Common.{◌≡◌, ℕ, ◌<◌}
+use Rattle.std.proofs.Common.{◌≡◌, ℕ, ◌<◌, get_or}
 use Rattle.hull.specs.Rings.{listed}
 use Rattle.hull.specs.Records.{held}
 use Rattle.hull.proofs.Links.{LinkAt}
 use Rattle.hull.proofs.records.HullState.settle.Given as goal
 
-abbrev pub invariant-loop-i : goal.invariant-loop-i
-invariant-loop-i l =
-    (l.self.ring ≡ l.ring) × ((k : ℕ) → k < l.i → LinkAt l.self.records (listed l.ring) k)
-    × ((p : ℕ) → held l.self.records p ≡ held l.initial.self.records p)
+abbrev pub invariant-loop-next : goal.invariant-loop-next
+invariant-loop-next l = record {
+  mark : l.mark ≡ get_or (listed l.fn.ring) l.next-index 0;
+  linked : (k : ℕ) → k < l.next-index → LinkAt l.self.records (listed l.fn.ring) k;
+  held : (p : ℕ) → held l.self.records p ≡ held l.fn.self.records p;
+}

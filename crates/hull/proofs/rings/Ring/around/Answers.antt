@@ -1,72 +1,105 @@
-use Rattle.std.proofs.Common.{◌≡◌, ◌+◌, ◌-◌, ◌≤◌, ◌++◌, length, get_or, drop, sym, ap, ◌∙◌, subst, ap₂, append_assoc, append-nil, arith, length-append, drop_of_length-le}
+use Rattle.std.proofs.Common.{◌≡◌, ◌+◌, ◌-◌, ◌<◌, length, get_or, take, drop, sym, ap, ◌∙◌, subst, ap₂, subst₂, arith}
+use Rattle.std.proofs.lemmas.Grind.{common_steps}
+use Rattle.laws.specs.Systems.{Three}
 use Rattle.laws.specs.Outlines.{Outline}
 use Rattle.laws.specs.Theorems.{of}
-use Rattle.hull.specs.Rings.{listed, left_on}
-use Rattle.hull.proofs.Lists.{listed_length, listed_at, rotated_last}
-use Rattle.hull.proofs.Growth.{grown, whole, seen_by, grown_more, goes_round, whole_few}
+use Rattle.hull.specs.Rings.{listed, rotated}
+use Rattle.hull.proofs.Lists.{rotated_next, rotated_last}
+use Rattle.hull.proofs.Growth.{seen_by, three_at, turn_fits, turn_more, turn_last, whole_few, goes_round}
 use Rattle.hull.proofs.rings.Ring.around.Goals as goal
 
-pub loop-i-init : goal.loop-i-init
-loop-i-init g c =
-    let r = c.args.self.now in
-    let l = listed r in
-    let x = c.args.x in
+pub lies_right-closing_seen-requires : goal.lies_right-closing_seen-requires
+lies_right-closing_seen-requires g c =
+    let l = listed c.args.self.now in
+    let k = c.deref.result.now in
+    let e : k ≡ l = c.deref.ensures.0 in
     let m = g.S.CcSystem.meaning c.args.system.now in
-    let e : r.len - 1 ≡ length l - 1 = ap (λ n. n - 1) (sym (listed_length r)) in
-    let first = rotated_last l (r.len - 1) (omega (arith, listed_length r, c.requires.two)) (omega (arith, listed_length r, c.requires.two)) in
-    let last : c.is_seen-last.result ≡ seen_by m x (get_or l (length l - 1) 0) (get_or l 0 0) =
-    c.is_seen-last.ensures.seen ∙ ap₂ (seen_by m x) (ap (λ i. get_or l i 0) e) first in
-    ap (λ k. k ++ grown (seen_by m x) x c.is_seen-last.result l (get_or l 0 0)) c.empty-new.ensures.none
-    ∙ ap (λ b. grown (seen_by m x) x b l (get_or l 0 0)) last
+    let n = length l - 1 in
+    let two = c.requires.two in
+    record {
+      three = subst (λ a. Three m.count (get_or a (length a - 1) 0) (get_or a 0 0) c.args.x) (sym e)
+          (subst (λ q. Three m.count (get_or l n 0) q c.args.x) (rotated_last l n (omega arith) (omega arith))
+          (three_at (g.S.CcSystem.lawful c.args.system.now) c.args.x l two c.requires.beside n (omega arith)));
+    }
+
+pub lies_right-seen_from-requires : goal.lies_right-seen_from-requires
+lies_right-seen_from-requires g c =
+    let l = listed c.args.self.now in
+    let k = c.deref.result.now in
+    let i = c.loop-next.next-index in
+    let m = g.S.CcSystem.meaning c.args.system.now in
+    let long : length k ≡ length l = ap length c.deref.ensures.0 in
+    let h : i + 1 < length l = grind (arith, common_steps, c.loop-next-test.true) in
+    let next_is : get_or (take (length k - 1) (drop 1 k)) i 0 ≡ get_or l (i + 1) 0 = grind (arith, common_steps) in
+    record {
+      three = subst₂ (λ p q. Three m.count p q c.args.x) (sym c.loop-next.invariant.mark) (rotated_next l i h ∙ sym next_is)
+          (three_at (g.S.CcSystem.lawful c.args.system.now) c.args.x l c.requires.two c.requires.beside i (omega arith));
+    }
 
 pub put-requires : goal.put-requires
 put-requires g c =
-    let r = c.args.self.now in
-    let l = listed r in
-    let x = c.args.x in
+    let l = listed c.args.self.now in
+    let k = c.deref.result.now in
+    let i = c.loop-next.next-index in
     let m = g.S.CcSystem.meaning c.args.system.now in
-    let i = c.loop-i.i in
-    let s = c.is_seen_but_last-seen_from.result in
-    let rest = grown (seen_by m x) x s (drop (i + 1) l) (get_or l 0 0) in
-    let step = grown_more (seen_by m x) x c.loop-i.seen_to s l i (omega (arith, listed_length r, c.loop-i-test.true)) c.is_seen_but_last-seen_from.ensures.seen in
-    let all = ap length (sym c.loop-i.invariant ∙ ap (λ k. listed c.loop-i.new ++ k) step) in
+    let x = c.args.x in
+    let a = c.loop-next.mark in
+    let long : length k ≡ length l = ap length c.deref.ensures.0 in
+    let h : i + 1 < length l = grind (arith, common_steps, c.loop-next-test.true) in
+    let next_is : get_or (take (length k - 1) (drop 1 k)) i 0 ≡ get_or l (i + 1) 0 = grind (arith, common_steps) in
+    let from_is = c.lies_right-seen_from.ensures.right ∙ ap (λ q. m.left a x q) (next_is ∙ sym (rotated_next l i h)) in
+    let fits = turn_fits (seen_by m x) x l i a c.loop-next.seen_to c.lies_right-seen_from.result (listed c.loop-next.new) (listed c.loop-next.new) (omega arith) c.loop-next.invariant.mark from_is c.loop-next.invariant.so_far in
+    record { room = omega (arith, whole_few (g.S.CcSystem.lawful c.args.system.now) x l c.requires.two c.requires.beside) }
+
+pub loop-next-preserved : goal.loop-next-preserved
+loop-next-preserved g c =
+    let l = listed c.args.self.now in
+    let k = c.deref.result.now in
+    let i = c.loop-next.next-index in
+    let m = g.S.CcSystem.meaning c.args.system.now in
+    let x = c.args.x in
+    let a = c.loop-next.mark in
+    let long : length k ≡ length l = ap length c.deref.ensures.0 in
+    let h : i + 1 < length l = grind (arith, common_steps, c.loop-next-test.true) in
+    let next_is : get_or (take (length k - 1) (drop 1 k)) i 0 ≡ get_or l (i + 1) 0 = grind (arith, common_steps) in
+    let from_is = c.lies_right-seen_from.ensures.right ∙ ap (λ q. m.left a x q) (next_is ∙ sym (rotated_next l i h)) in
     record {
-      room = subst (λ a. c.loop-i.new.len + length (left_on c.loop-i.seen_to s a x) ≤ 128) (sym (listed_at r i c.loop-i-test.true))
-          (omega (
-            arith,
-            all,
-            length-append (listed c.loop-i.new) (left_on c.loop-i.seen_to s (get_or l i 0) x ++ rest),
-            length-append (left_on c.loop-i.seen_to s (get_or l i 0) x) rest,
-            listed_length c.loop-i.new,
-            whole_few (g.S.CcSystem.lawful c.args.system.now) x l (omega (arith, listed_length r, c.requires.two)) c.requires.beside,
-          ));
+      mark = next_is;
+      so_far = turn_more (seen_by m x) x l i a c.loop-next.seen_to c.lies_right-seen_from.result (listed c.loop-next.new) (listed c.put.new.self) (omega arith) c.loop-next.invariant.mark from_is c.loop-next.invariant.so_far c.put.ensures.put;
     }
 
-pub loop-i-preserved : goal.loop-i-preserved
-loop-i-preserved g c =
-    let r = c.args.self.now in
-    let l = listed r in
-    let x = c.args.x in
+pub put-requires-2 : goal.put-requires-2
+put-requires-2 g c =
+    let l = listed c.args.self.now in
+    let k = c.deref.result.now in
+    let e : k ≡ l = c.deref.ensures.0 in
+    let i = c.loop-next.next-index in
     let m = g.S.CcSystem.meaning c.args.system.now in
-    let i = c.loop-i.i in
-    let s = c.is_seen_but_last-seen_from.result in
-    let rest = grown (seen_by m x) x s (drop (i + 1) l) (get_or l 0 0) in
-    let step = grown_more (seen_by m x) x c.loop-i.seen_to s l i (omega (arith, listed_length r, c.loop-i-test.true)) c.is_seen_but_last-seen_from.ensures.seen in
-    let put = c.put.ensures.put ∙ ap (λ a. listed c.loop-i.new ++ left_on c.loop-i.seen_to s a x) (listed_at r i c.loop-i-test.true) in
-    ap (λ k. k ++ rest) put ∙ append_assoc (listed c.loop-i.new) (left_on c.loop-i.seen_to s (get_or l i 0) x) rest
-    ∙ ap (λ k. listed c.loop-i.new ++ k) (sym step) ∙ c.loop-i.invariant
+    let x = c.args.x in
+    let a = c.loop-next.mark in
+    let long : length k ≡ length l = ap length e in
+    let n : i + 1 ≡ length l = grind (arith, common_steps, c.loop-next-test.false, c.loop-next.auto.next-index-end, c.requires.two) in
+    let last_is : get_or k (length k - 1) 0 ≡ a = ap (λ b. get_or b (length b - 1) 0) e ∙ ap (λ j. get_or l j 0) (omega arith) ∙ sym c.loop-next.invariant.mark in
+    let first_is : get_or k 0 0 ≡ get_or (rotated l) i 0 = ap (λ b. get_or b 0 0) e ∙ sym (rotated_last l i (omega arith) (omega arith)) in
+    let from_is = c.lies_right-closing_seen.ensures.right ∙ ap₂ (λ p q. m.left p x q) last_is first_is in
+    let fits = turn_fits (seen_by m x) x l i a c.loop-next.seen_to c.lies_right-closing_seen.result (listed c.loop-next.new) (listed c.loop-next.new) (omega arith) c.loop-next.invariant.mark from_is c.loop-next.invariant.so_far in
+    record { room = omega (arith, whole_few (g.S.CcSystem.lawful c.args.system.now) x l c.requires.two c.requires.beside) }
 
 pub returns : goal.returns
 returns g c =
-    let r = c.args.self.now in
-    let l = listed r in
-    let x = c.args.x in
+    let l = listed c.args.self.now in
+    let k = c.deref.result.now in
+    let e : k ≡ l = c.deref.ensures.0 in
+    let i = c.loop-next.next-index in
     let m = g.S.CcSystem.meaning c.args.system.now in
-    let none = drop_of_length-le l {i = c.loop-i.i} (omega (arith, listed_length r, c.loop-i-test.false)) in
-    let e : listed c.loop-i.new ≡ whole (seen_by m x) x l =
-    sym (append-nil (listed c.loop-i.new)) ∙ ap (λ k. listed c.loop-i.new ++ grown (seen_by m x) x c.loop-i.seen_to k (get_or l 0 0)) (sym none) ∙ c.loop-i.invariant in
+    let x = c.args.x in
+    let a = c.loop-next.mark in
+    let long : length k ≡ length l = ap length e in
+    let n : i + 1 ≡ length l = grind (arith, common_steps, c.loop-next-test.false, c.loop-next.auto.next-index-end, c.requires.two) in
+    let last_is : get_or k (length k - 1) 0 ≡ a = ap (λ b. get_or b (length b - 1) 0) e ∙ ap (λ j. get_or l j 0) (omega arith) ∙ sym c.loop-next.invariant.mark in
+    let first_is : get_or k 0 0 ≡ get_or (rotated l) i 0 = ap (λ b. get_or b 0 0) e ∙ sym (rotated_last l i (omega arith) (omega arith)) in
+    let from_is = c.lies_right-closing_seen.ensures.right ∙ ap₂ (λ p q. m.left p x q) last_is first_is in
+    let done = turn_last (seen_by m x) x l i a c.loop-next.seen_to c.lies_right-closing_seen.result (listed c.loop-next.new) (listed c.put-2.new.self) (omega arith) c.loop-next.invariant.mark from_is c.loop-next.invariant.so_far n c.put-2.ensures.put in
     record {
-      around = λ s t marks ring one.
-          subst (Outline m (of t)) (sym e)
-          (goes_round (g.S.CcSystem.lawful c.args.system.now) x l (omega (arith, listed_length r, c.requires.two)) c.requires.beside.x_in s t marks ring one);
+      around = λ s t marks ring one. subst (Outline m (of t)) (sym done) (goes_round (g.S.CcSystem.lawful c.args.system.now) x l c.requires.two c.requires.beside.x_in s t marks ring one);
     }

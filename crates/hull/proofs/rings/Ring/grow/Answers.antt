@@ -1,26 +1,21 @@
-use Rattle.std.proofs.Common.{[], ◌∷◌, ◌++◌, subst, arith}
-use Rattle.laws.specs.Outlines.{Turned}
-use Rattle.hull.specs.Rings.{listed}
-use Rattle.hull.proofs.Lists.{listed_length}
+use Rattle.std.proofs.Common.{subst, sym, arith}
+use Rattle.hull.specs.Rings.{listed, GoesRound}
+use Rattle.hull.specs.declared.rings.Ring.{Ring}
 use Rattle.hull.proofs.Growth.{few_round, grows_from}
 use Rattle.hull.proofs.rings.Ring.grow.Goals as goal
-
-pub returns-then-self-lt2 : goal.returns-then-self-lt2
-returns-then-self-lt2 g c =
-    let r = c.args.self.now in
-    let L = g.S.CcSystem.lawful c.args.system.now in
-    let x = c.args.x in
-    let new = listed c.lowest_first.result in
-    record {
-      grows = grows_from L x (listed r) (listed r ++ x ∷ []) new c.requires.beside.x_in (few_round L x (listed r) (omega (arith, listed_length r, c.if-self-lt2.true)) c.requires.beside.x_in)
-          (subst (λ k. Turned k new) c.push.ensures.pushed c.lowest_first.ensures.same) c.lowest_first.ensures.lowest;
-    }
+use Rattle.hull.proofs.rings.Ring.grow.Goals.{then-len-lt2, else-len-lt2}
 
 pub returns : goal.returns
 returns g c =
-    let r = c.args.self.now in
+    let l = listed c.args.self.now in
     let L = g.S.CcSystem.lawful c.args.system.now in
-    record {
-      grows = grows_from L c.args.x (listed r) (listed c.around.result) (listed c.lowest_first-2.result) c.requires.beside.x_in c.around.ensures.around
-          c.lowest_first-2.ensures.same c.lowest_first-2.ensures.lowest;
-    }
+    let m = g.S.CcSystem.meaning c.args.system.now in
+    let x = c.args.x in
+    let x_in = c.requires.beside.x_in in
+    let round : GoesRound m l x (listed c.if-len-lt2.ring) = elim c.if-len-lt2.branch [
+      | then-len-lt2 w ↦
+          subst (λ (r : Ring). GoesRound m l x (listed r)) (sym w.ring-is)
+          (subst (GoesRound m l x) (sym w.with_last-ring.ensures.appended) (few_round L x l (let h = w.if-len-lt2.true in omega (arith, c.len.ensures.value)) x_in))
+      | else-len-lt2 w ↦ subst (λ (r : Ring). GoesRound m l x (listed r)) (sym w.ring-is) w.around-ring.ensures.around
+    ] in
+    record { grows = grows_from L x l (listed c.if-len-lt2.ring) (listed c.start_at_lowest.new.self) x_in round c.start_at_lowest.ensures.same c.start_at_lowest.ensures.lowest }
