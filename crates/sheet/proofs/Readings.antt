@@ -1,5 +1,5 @@
 -- A head and the lines after it make the answer of a reading. Assumes nothing.
-use Rattle.std.proofs.Common.{◌≡◌, ℕ, ◌-◌, ◌<◌, ◌≤◌, List, length, take, ap, ◌∙◌, subst, arith}
+use Rattle.std.proofs.Common.{min, ◌≡◌, ℕ, ◌-◌, ◌<◌, ◌≤◌, List, length, take, ap, ◌∙◌, subst, arith}
 use Rattle.std.proofs.lemmas.List.{length-take-le}
 use Rattle.cc.specs.declared.faults.Fault.{Fault}
 use Rattle.cc.specs.declared.faults.Fault.TheVariants.{Tight}
@@ -27,9 +27,10 @@ few_due Network n few = pairs_few n (n - 1) few (omega arith)
 few_due Table n few = triples_few n (n - 1) (n - 2) few (omega arith) (omega arith)
 
 -- m of the list's entries are taken, one for each line that is due
-pub due_taken : {V : Type 0} (kind k : Kind) (n m : ℕ) (list : List V) → kind ≡ k → (n ≤ limit kind → m ≡ due kind n) → n ≤ limit kind → most_due k ≤ length list → length (take m list) ≡ due k n
+pub due_taken : {V : Type 0} (kind k : Kind) (n m : ℕ) (list : List V) → kind ≡ k → m ≡ due kind (min n (limit kind)) → n ≤ limit kind → most_due k ≤ length list → length (take m list) ≡ due k n
 due_taken kind k n m list is due_is limited room =
-    let e = due_is limited ∙ ap (λ k. due k n) is in
+    let small : min n (limit kind) ≡ n = omega (arith, limited) in
+    let e = due_is ∙ ap (due kind) small ∙ ap (λ k. due k n) is in
     let few = few_due k n (subst (λ k. n ≤ limit k) is limited) in
     length-take-le m list (omega (arith, e, few)) ∙ e
 

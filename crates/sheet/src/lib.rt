@@ -11,7 +11,7 @@ pub mod numbers;
 mod rooms;
 mod spots;
 
-ghost use Rattle.std.specs.Prelude.{◌≡◌, ◌<◌, ◌≤◌, [], ◌∷◌, ◌++◌, drop, length, Some, MatchBool, MatchResult};
+ghost use Rattle.std.specs.Prelude.{◌≡◌, ◌<◌, ◌≤◌, [], ◌∷◌, ◌++◌, drop, length, min, Some, MatchBool, MatchResult};
 ghost use Rattle.sheet.specs.Fields.{Says, Six};
 ghost use Rattle.sheet.specs.Shapes.{Lettered, letter};
 ghost use Rattle.sheet.specs.Sheets.{Answers, Copied, Opens, Unopened, due, heads, limit, lists};
@@ -47,15 +47,15 @@ impl Kind {
     }
 
     // How many lines follow the head in a sheet of so many marks: one for each mark, for each pair, or for each triple.
-    // Where the count is beyond the limit, any number.
+    // A count beyond the limit is taken as the limit.
     pub fn due(self, count: usize) -> usize
-        ensures due { count ≤ limit self → result ≡ due self count }
+        ensures due { result ≡ due self (min count (limit self)) }
     {
-        let pairs = count.saturating_mul(count.saturating_sub(1));
+        let n = count.min(self.limit());
         match self {
-            Kind::Points => count,
-            Kind::Network => pairs / 2,
-            Kind::Table => pairs.saturating_mul(count.saturating_sub(2)) / 6,
+            Kind::Points => n,
+            Kind::Network => n * n.saturating_sub(1) / 2,
+            Kind::Table => n * n.saturating_sub(1) * n.saturating_sub(2) / 6,
         }
     }
 }
