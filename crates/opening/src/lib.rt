@@ -6,15 +6,15 @@
 
 mod opened;
 
-ghost use Rattle.std.specs.Prelude.{MatchResult};
-ghost use Rattle.opening.specs.Opening.{Opens, Refused, meaning_of};
+ghost use Rattle.std.specs.Prelude.{◌≡◌, MatchResult};
+ghost use Rattle.opening.specs.Opening.{Opens, Refused, kind_of, meaning_of};
 ghost use Rattle.opening.specs.Lawful.{opened_lawful};
 
 use cc::checks::Checked;
 use cc::faults::Fault;
 use cc::{CcSystem, Turn};
 pub use opened::Opened;
-use sheet::{Room, Values};
+use sheet::{Kind, Room, Values};
 use systems::networks::ReflectionNetwork;
 use systems::points::Points;
 use systems::tables::TurnTable;
@@ -37,6 +37,19 @@ impl<'a> CcSystem for Opened<'a> {
             Opened::Points(points) => points.turn(p, q, r),
             Opened::Network(network) => network.turn(p, q, r),
             Opened::Table(table) => table.turn(p, q, r),
+        }
+    }
+}
+
+impl<'a> Opened<'a> {
+    // The kind of the sheet that it was opened from.
+    pub fn kind(&self) -> Kind
+        ensures kind { result ≡ kind_of self.now }
+    {
+        match self {
+            Opened::Points(_) => Kind::Points,
+            Opened::Network(_) => Kind::Network,
+            Opened::Table(_) => Kind::Table,
         }
     }
 }

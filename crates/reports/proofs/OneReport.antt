@@ -24,7 +24,8 @@ use Rattle.sheet.specs.declared.Kind.{Kind}
 use Rattle.sheet.specs.declared.Kind.TheVariants.{Points, Network, Table}
 use Rattle.reports.specs.Lines.{fault_line, kind_line, ring_line, round_lines, pair_lines, tape_line}
 use Rattle.reports.specs.Layers.{first}
-use Rattle.reports.specs.Reports.{Judged, system, StarTold, no_centre, pairs, TapeTold, tape, Sections, of_points, of_network, of_table, Told, OneReport}
+use Rattle.opening.specs.Opening.{Judged, system}
+use Rattle.reports.specs.Reports.{StarTold, no_centre, pairs, TapeTold, tape, Sections, of_points, of_network, of_table, Told, OneReport}
 use Rattle.reports.specs.Reports as report
 use Rattle.reports.proofs.Adding.{first_marks, ring_few}
 use Rattle.reports.proofs.OneSheet.{not_refused, one_refusal, same_sheet}

@@ -14,7 +14,8 @@ use Rattle.sheet.specs.Shapes.{letter}
 use Rattle.sheet.specs.declared.Kind.{Kind}
 use Rattle.reports.specs.Lines.{fault_line, line, ring_line, round_lines}
 use Rattle.reports.specs.Layers.{first, Layered}
-use Rattle.reports.specs.Reports.{Judged, Sections, Told, told, system}
+use Rattle.opening.specs.Opening.{Judged, system}
+use Rattle.reports.specs.Reports.{Sections, Told, told}
 use Rattle.reports.specs.Reports as report
 use Rattle.reports.proofs.Adding.{first_marks, ring_few}
 use Rattle.reports.proofs.Texts.{from_empty}

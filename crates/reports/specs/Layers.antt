@@ -1,8 +1,7 @@
 -- The outline and the rounds of all marks of a system.
-use Rattle.std.specs.Prelude.{ℕ, Bool, List, take, nat_lt}
+use Rattle.std.specs.Prelude.{ℕ, Bool, List, nat_lt}
 use Rattle.laws.specs.Systems.{Meaning}
 use Rattle.runs.specs.Calls.{RingOf, Rounds}
-use Rattle.reports.specs.declared.layers.ConvexLayers.{ConvexLayers}
 
 -- the marks below n
 abbrev pub first : ℕ → ℕ → Bool
@@ -13,10 +12,3 @@ pub record Layered (m : Meaning) (ring rounds : List ℕ) : Type 0 where
   pub is_ring : RingOf m (first m.count) ring
   pub number : ℕ
   pub are_rounds : Rounds m (first m.count) rounds number
-
--- the ring and the rounds that the code holds
-abbrev pub ring_in : ConvexLayers → List ℕ
-ring_in l = take l.len l.ring
-
-abbrev pub rounds_in : ConvexLayers → List ℕ
-rounds_in l = take l.count l.rounds

@@ -1,5 +1,6 @@
 -- The lines of a report: a word, its numbers, each after a tab, and byte 10.
-use Rattle.std.specs.Prelude.{ℕ, zero, suc, List, [], ◌∷◌, ◌++◌, length, codes, decimal, slice_index, slice_index_or}
+use Rattle.std.specs.Prelude.{ℕ, zero, suc, List, [], ◌∷◌, ◌++◌, length, codes, slice_index, slice_index_or}
+use Rattle.cc.specs.Texts.{tabbed}
 use Rattle.cc.specs.Refusals.{number, places}
 use Rattle.cc.specs.declared.faults.Fault.{Fault}
 use Rattle.sheet.specs.Shapes.{letter}
@@ -10,12 +11,9 @@ abbrev pub each : (ℕ → List ℕ) → ℕ → List ℕ
 each f zero = []
 each f (suc n) = each f n ++ f n
 
--- the numbers, a tab before each
-abbrev pub fields : List ℕ → List ℕ
-fields ns = each (λ i. 9 ∷ decimal (slice_index ns i)) (length ns)
-
+-- a word, numbers with a tab before each, and byte 10
 abbrev pub line : List ℕ → List ℕ → List ℕ
-line word ns = word ++ fields ns ++ 10 ∷ []
+line word ns = word ++ tabbed ns ++ 10 ∷ []
 
 -- the number of a refusal, and the places that it uses
 abbrev pub fault_line : List ℕ → Fault → List ℕ

@@ -1,34 +1,16 @@
 -- What the report of a sheet says.
-use Rattle.std.specs.Prelude.{◌≡◌, ℕ, ◌<◌, List, [], ◌++◌, length, Some, None, codes, Option}
+use Rattle.std.specs.Prelude.{◌≡◌, ℕ, ◌<◌, List, [], ◌++◌, length, Some, None, codes}
 use Rattle.cc.specs.declared.faults.Fault.{Fault}
-use Rattle.laws.specs.Systems.{Meaning}
 use Rattle.models.specs.declared.places.Place.{Place}
-use Rattle.models.specs.Places.{plane}
-use Rattle.models.specs.Networks.{network}
-use Rattle.systems.specs.Tables.{turn_table}
-use Rattle.systems.specs.Tables as table
-use Rattle.systems.specs.Networks as network
-use Rattle.systems.specs.Openings as points
 use Rattle.systems.specs.Openings.{Starred, StarRefused}
 use Rattle.sections.specs.Delaunay.{StarPairs}
 use Rattle.sections.specs.Tapes.{Taped}
+use Rattle.opening.specs.Opening.{Judged, system}
 use Rattle.sheet.specs.Sheets.{Declines, Holds, Lists, Value}
 use Rattle.sheet.specs.declared.Kind.{Kind}
 use Rattle.sheet.specs.declared.Kind.TheVariants.{Points, Network, Table}
 use Rattle.reports.specs.Lines.{fault_line, kind_line, ring_line, round_lines, pair_lines, tape_line}
 use Rattle.reports.specs.Layers.{Layered}
-
--- the fault for which a sheet's list is refused where it is opened as a system, or none
-abbrev pub Judged : (k : Kind) → ℕ → List (Value k) → Option Fault → Type 0
-Judged Points n ps = points.Judged ps
-Judged Network n cs = network.Judged n cs
-Judged Table n ts = table.Judged n ts
-
--- the system that it means
-abbrev pub system : (k : Kind) → ℕ → List (Value k) → Meaning
-system Points n ps = plane ps
-system Network n cs = network n cs
-system Table n ts = turn_table n ts
 
 -- the star about mark 0: a line for each pair, or the refusal; nothing where there is no mark 0
 pub data StarTold (ps : List Place) : List ℕ → Type 0 where

@@ -1,6 +1,0 @@
-use Rattle.std.proofs.Common.{◌≡◌, [], ◌∷◌, ◌++◌, get_or, string_bytes, codes}
-use Rattle.reports.specs.Lines.{each, line}
-use Rattle.reports.proofs.lines.write_pairs.Given as goal
-
-abbrev pub invariant-loop-k : goal.invariant-loop-k
-invariant-loop-k l = string_bytes l.out ≡ string_bytes l.initial.out ++ each (λ k. line (codes "star") ((get_or l.pairs k (0, 0)).0 ∷ (get_or l.pairs k (0, 0)).1 ∷ [])) l.k
