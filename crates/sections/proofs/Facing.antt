@@ -1,6 +1,7 @@
 -- The pairs of a star are the arcs of the star system that face its centre.
-use Rattle.std.proofs.Common.{◌≡◌, ℕ, ◌-◌, ◌<◌, ◌≢◌, List, length, sym, refl, ap, ◌∙◌, subst, arith}
+use Rattle.std.proofs.Common.{◌≡◌, ℕ, ◌-◌, ◌<◌, ◌≢◌, Bool, true, false, List, length, MatchBool, MatchOption, sym, refl, ap, ◌∙◌, subst, arith}
 use native.Mathlib.Decide.{dec_lt}
+use Rattle.std.specs.Bool.{then_some}
 use Rattle.laws.specs.Systems.{Left, Lawful}
 use Rattle.laws.specs.Outlines.{Arc}
 use Rattle.laws.proofs.Arcs.{one_after}
@@ -130,3 +131,10 @@ module _ (ps : List Place) (c : ℕ) (g : Good ps) (s : Starred ps c) (i : ℕ) 
 
   pub the_pair : (j : ℕ) → Arc (star ps c) (AllOf (star ps c)) i j → (q : ℕ) → Delaunay ps c (other c i) q → other c j ≡ q
   the_pair j a q d = let b = its_arc q d in ap (other c) (one_after (lawful ps c g s) i j b.0 a b.2) ∙ b.1
+
+  -- the pair by which the arc from mark i faces c, or none where it faces away
+  pub pair_by : (b : Bool) (j p q : ℕ) → p ≡ other c i → q ≡ other c j → Arc (star ps c) (AllOf (star ps c)) i j → MatchBool b (Left (plane ps) c p q) (Left (plane ps) c p q → ⊥)
+      → MatchOption {T = ℕ × ℕ} (then_some b (p, q)) ((r : ℕ) → Delaunay ps c (other c i) r → ⊥) (λ t. (t.0 ≡ other c i) × Delaunay ps c t.0 t.1)
+  pair_by true j p q e f a l =
+      (e, delaunay ps c g s p q (record { i = i; j = j; i_means = sym e; j_means = sym f; arc = a; faces = l }))
+  pair_by false j p q e f a away = λ r d. away (subst (λ x. x) (λ t. Left (plane ps) c (sym e t) (sym (f ∙ the_pair j a r d) t)) d.turns)

@@ -1,14 +1,25 @@
 -- A tape's length as it grows, and that there is one only.
-use Rattle.std.proofs.Common.{◌≡◌, ℕ, ◌+◌, ◌*◌, ◌<◌, ◌≤◌, List, [], ◌∷◌, ◌++◌, length, Ok, Err, sum, sym, refl, ap, ◌∙◌, subst, mul-le-mul, arith}
+use Rattle.std.proofs.Common.{◌≡◌, ℕ, suc, ◌+◌, ◌*◌, ◌<◌, ◌≤◌, Bool, true, false, cond, ltb, min, List, [], ◌∷◌, ◌++◌, length, get_or, take, drop, Ok, Err, sum, sym, refl, ap, ◌∙◌, subst, mul-le-mul, add-one, arith, ltb-false, ltb-true}
 use native.Mathlib.Decide.{dec_lt}
-use Rattle.std.proofs.lemmas.List.{get_or_append_left, get_or_push, length_push, ext_get_or}
+use Rattle.std.proofs.lemmas.List.{get_or_append_left, get_or_default, get_or_push, length_push, ext_get_or}
+use Rattle.std.specs.List.{zip}
+use Rattle.std.specs.Iterator.Adapters.{chain_first, chain_first_done, chain_second, chain_second_done, chain_steps, zip_first, zip_second}
+use Rattle.std.specs.Slice.Iter.{iter_rest}
+use Rattle.std.specs.declared.iter.Zip.{Zip}
+use Rattle.std.specs.declared.iter.Chain.{Chain}
+use Rattle.std.proofs.Common.{Iter}
+use Rattle.std.proofs.iter.Yields.{fronts}
+use Rattle.std.proofs.lemmas.Iterator.{YieldsList, YieldsList-from_slice, YieldsList-from_zip, zips}
+use Rattle.std.proofs.lemmas.Iterator.Consumers.{YieldsList-from_chain}
+use Rattle.std.proofs.lemmas.Slice.Zip.{get_or-zip, length-zip}
 use Rattle.std.proofs.lemmas.List.Sums.{sum_by_push}
 use Rattle.cc.specs.declared.faults.Fault.{Fault}
 use Rattle.cc.specs.declared.faults.Fault.TheVariants.{Stranger}
 use Rattle.models.specs.declared.places.Place.{Place}
+use Rattle.laws.specs.First.{Never}
 use Rattle.models.specs.Places.{place}
 use Rattle.models.proofs.Firsts.{one_first}
-use Rattle.sections.specs.Tapes.{Root, squared, entry, follower, Taped, TapeRefused, TapeMeasured, OneTapeAnswer}
+use Rattle.sections.specs.Tapes.{Root, squared, entry, follower, Strange, Taped, TapeRefused, TapeMeasured, OneTapeAnswer}
 
 -- the first n steps
 pub record TapedBelow (ps : List Place) (ring : List ℕ) (n total : ℕ) : Type 0 where
@@ -44,6 +55,47 @@ module _ (ps : List Place) (ring : List ℕ) where
   pub tape_all : (n total : ℕ) → n ≡ length ring → TapedBelow ps ring n total → Taped ps ring total
   tape_all n total e h =
       record { steps = h.steps; one_each = h.one_each ∙ e; roots = λ i l. h.roots i (omega arith); adds = h.adds }
+
+-- ---- the steps of a ring, by the ring and its rotation by one entry
+
+turn_at : (r : ℕ) (rs : List ℕ) (k : ℕ) (x : ℕ × ℕ) → (k < length (zip (r ∷ rs) (rs ++ r ∷ []))) × (x ≡ get_or (zip (r ∷ rs) (rs ++ r ∷ [])) k x) → (k < length (r ∷ rs)) × (x.0 ≡ entry (r ∷ rs) k) × (x.1 ≡ follower (r ∷ rs) k)
+turn_at r rs k x (lt, is) =
+    (under, ap (λ y. y.0) at ∙ get_or_default (r ∷ rs) k x.0 0 under, ap (λ y. y.1) at ∙ go (ltb (k + 1) (suc (length rs))) refl)
+  where
+    under : k < suc (length rs)
+    under = omega (arith, lt, length-zip (r ∷ rs) (rs ++ r ∷ []), length_push rs r)
+
+    at : x ≡ (get_or (r ∷ rs) k x.0, get_or (rs ++ r ∷ []) k x.1)
+    at = is ∙ get_or-zip (r ∷ rs) (rs ++ r ∷ []) k x under (omega (arith, under, length_push rs r))
+
+    go : (b : Bool) → ltb (k + 1) (suc (length rs)) ≡ b → get_or (rs ++ r ∷ []) k x.1 ≡ cond b (entry (r ∷ rs) (k + 1)) r
+    go true e =
+        let lt : k < length rs = omega (arith, ltb-true (k + 1) (suc (length rs)) e) in
+        get_or_append_left rs (r ∷ []) x.1 k lt ∙ get_or_default rs k x.1 0 lt ∙ ap (entry (r ∷ rs)) (sym (add-one k))
+    go false e = get_or_push rs r x.1 k (omega (arith, under, ltb-false (k + 1) (suc (length rs)) e))
+
+pub step_at : (n : ℕ) (ring : List ℕ) → n ≡ min (length ring) 1 → (k : ℕ) (x : ℕ × ℕ) → (k < length (zip ring (drop n ring ++ take n ring))) × (x ≡ get_or (zip ring (drop n ring ++ take n ring)) k x) → (k < length ring) × (x.0 ≡ entry ring k) × (x.1 ≡ follower ring k)
+step_at n [] e k x h = absurd (omega (arith, h.0))
+step_at n (r ∷ rs) e k x h =
+    let one : n ≡ 1 = omega arith in
+    turn_at r rs k x (subst (λ n. (k < length (zip (r ∷ rs) (drop n (r ∷ rs) ++ take n (r ∷ rs)))) × (x ≡ get_or (zip (r ∷ rs) (drop n (r ∷ rs) ++ take n (r ∷ rs))) k x)) one h)
+
+-- the ring beside its rotation, as an iterator
+pub ring_steps : (ring : List ℕ) (n : ℕ) {s : Zip (Iter ℕ) (Chain (Iter ℕ) (Iter ℕ))} → iter_rest (zip_first s) ≡ ring → iter_rest (chain_first (zip_second s)) ≡ drop n ring → iter_rest (chain_second (zip_second s)) ≡ take n ring → chain_first_done (zip_second s) ≡ false → chain_second_done (zip_second s) ≡ false
+    → YieldsList (zips fronts (chain_steps fronts fronts)) (λ p. (p.0.now, p.1.now)) s (zip ring (drop n ring ++ take n ring))
+ring_steps ring n a b c d e =
+    YieldsList-from_zip (YieldsList-from_slice ring a) (YieldsList-from_chain (YieldsList-from_slice (drop n ring) b) (YieldsList-from_slice (take n ring) c) d e)
+
+-- the follower of a mark is one, where every entry is
+pub follower_known : (ps : List Place) (ring : List ℕ) (k : ℕ) → Never (length ring) (Strange ps ring) → k < length ring → follower ring k < length ps
+follower_known ps ring k none lt = go (ltb (k + 1) (length ring)) refl
+  where
+    mark : (i : ℕ) → i < length ring → entry ring i < length ps
+    mark i h = elim (dec_lt (entry ring i) (length ps)) [ yes l ↦ l | no l ↦ absurd (none i h (omega arith)) ]
+
+    go : (b : Bool) → ltb (k + 1) (length ring) ≡ b → cond b (entry ring (k + 1)) (entry ring 0) < length ps
+    go true e = mark (k + 1) (ltb-true (k + 1) (length ring) e)
+    go false e = mark 0 (omega arith)
 
 -- ---- one answer only
 

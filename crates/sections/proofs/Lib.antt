@@ -1,3 +1,4 @@
+mod Tested
 mod Facing
 mod Pairs
 pub mod Lengths

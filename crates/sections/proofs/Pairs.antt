@@ -1,8 +1,7 @@
 -- The list of a star's pairs, as it grows.
-use Rattle.std.proofs.Common.{◌≡◌, ℕ, ◌+◌, ◌-◌, ◌<◌, ◌≤◌, ◌≢◌, ◌⊎◌, List, [], ◌∷◌, ◌++◌, length, take, drop, set, sym, refl, ap, ◌∙◌, subst, inl, inr, arith}
+use Rattle.std.proofs.Common.{◌≡◌, ℕ, ◌+◌, ◌-◌, ◌<◌, ◌≤◌, ◌≢◌, ◌⊎◌, List, [], ◌∷◌, ◌++◌, length, drop, sym, refl, ap, ◌∙◌, subst, inl, inr, arith}
 use native.Mathlib.Decide.{dec_lt}
-use native.Mathlib.Nat.{sub-zero}
-use Rattle.std.proofs.lemmas.List.{get_or_append_left, get_or_push, length_push, length-take-le, take_more_set, take_at, drop_at}
+use Rattle.std.proofs.lemmas.List.{get_or_append_left, get_or_push, length_push, take_at, drop_at}
 use Rattle.models.specs.declared.places.Place.{Place}
 use Rattle.models.specs.Stars.{other}
 use Rattle.models.proofs.StarLaws.{Other, under, past, other_is}
@@ -122,13 +121,11 @@ module _ (ps : List Place) (c : ℕ) where
                 )
           ]
 
-  -- mark i has the pair x, which is written behind the n pairs before
-  pub pairs_put : (i n : ℕ) (l : List (ℕ × ℕ)) (x : ℕ × ℕ) → n < length l → PairsBelow ps c (other c i) (take n l) → x.0 ≡ other c i → Delaunay ps c x.0 x.1
-      → ((q : ℕ) → Delaunay ps c (other c i) q → x.1 ≡ q) → PairsBelow ps c (other c (i + 1)) (take (n + 1) (set l n x))
-  pairs_put i n l x h below e d one =
-      subst (PairsBelow ps c (other c (i + 1)))
-      ((λ t. take n l ++ (sym e t, x.1) ∷ []) ∙ sym (take_more_set l n x h))
-      (pairs_push i x.1 (take n l) below (subst (λ p. Delaunay ps c p x.1) e d) one)
+  pub pairs_add : (i : ℕ) (l : List (ℕ × ℕ)) (x : ℕ × ℕ) → PairsBelow ps c (other c i) l → x.0 ≡ other c i → Delaunay ps c x.0 x.1
+      → ((q : ℕ) → Delaunay ps c (other c i) q → x.1 ≡ q) → PairsBelow ps c (other c (i + 1)) (l ++ x ∷ [])
+  pairs_add i l x below e d one =
+      subst (λ p. PairsBelow ps c (other c (i + 1)) (l ++ (p, x.1) ∷ [])) (sym e)
+      (pairs_push i x.1 l below (subst (λ p. Delaunay ps c p x.1) e d) one)
 
   -- all marks came
   pub pairs_all : (i : ℕ) (l : List (ℕ × ℕ)) → c < length ps → length ps - 1 ≤ i → PairsBelow ps c (other c i) l → StarPairs ps c l
@@ -139,14 +136,13 @@ module _ (ps : List Place) (c : ℕ) where
       reach (under h) = omega arith
       reach (past h) = omega arith
 
--- the list after the copy of n found pairs to its front
-pub copied : (ps : List Place) (c n : ℕ) (before found part : List (ℕ × ℕ)) → Starred ps c → n ≤ length before
-    → length part ≡ length (take (n - 0) before) → part ≡ take (n - 0) found → StarPairs ps c (take n found) → StarWritten ps c n before (part ++ drop (n - 0) before)
-copied ps c n before found part starred fits same is pairs =
-    let long : length part ≡ n = same ∙ length-take-le (n - 0) before (omega arith) ∙ sub-zero n in
+-- the list after the copy of the found pairs to its front
+pub copied : (ps : List Place) (c n : ℕ) (before found part : List (ℕ × ℕ)) → Starred ps c → n ≤ length before → length found ≡ n → part ≡ found → StarPairs ps c found → StarWritten ps c n before (part ++ drop n before)
+copied ps c n before found part starred fits many same pairs =
+    let long : length part ≡ n = ap length same ∙ many in
     record {
       starred = starred;
       fits = fits;
-      front = subst (StarPairs ps c) (sym (take_at part (drop (n - 0) before) n long ∙ is ∙ ap (λ k. take k found) (sub-zero n))) pairs;
-      rest = drop_at part (drop (n - 0) before) n long ∙ ap (λ k. drop k before) (sub-zero n);
+      front = subst (StarPairs ps c) (sym (take_at part (drop n before) n long ∙ same)) pairs;
+      rest = drop_at part (drop n before) n long;
     }

@@ -11,13 +11,7 @@ use cc::{CcSystem, Turn};
 pub(crate) fn turns_left<S: CcSystem>(system: &S, p: usize, q: usize, r: usize) -> bool
     ensures left { MatchBool result (Left (S.CcSystem.meaning system.now) p q r) (Left (S.CcSystem.meaning system.now) p q r → ⊥) }
 {
-    let Some(turn) = system.turn(p, q, r) else {
-        return false;
-    };
-    match turn {
-        Turn::Left => true,
-        Turn::Right => false,
-    }
+    system.turn(p, q, r) == Some(Turn::Left)
 }
 
 // Whether every other mark is to the left of p and q.
@@ -26,15 +20,7 @@ fn is_arc<S: CcSystem>(system: &S, p: usize, q: usize) -> bool
     requires to { q < (S.CcSystem.meaning system.now).count }
     ensures arc { MatchBool result (Arc (S.CcSystem.meaning system.now) (AllOf (S.CcSystem.meaning system.now)) p q) (Arc (S.CcSystem.meaning system.now) (AllOf (S.CcSystem.meaning system.now)) p q → ⊥) }
 {
-    if p == q {
-        return false;
-    }
-    for r in 0..system.count() {
-        if r != p && r != q && !turns_left(system, p, q, r) {
-            return false;
-        }
-    }
-    true
+    p != q && (0..system.count()).all(|r| r == p || r == q || turns_left(system, p, q, r))
 }
 
 // The mark to which an arc leads from p.
@@ -42,10 +28,5 @@ pub(crate) fn arc_from<S: CcSystem>(system: &S, p: usize) -> Option<usize>
     requires from { p < (S.CcSystem.meaning system.now).count }
     ensures arc { MatchOption result ((q : ℕ) → Arc (S.CcSystem.meaning system.now) (AllOf (S.CcSystem.meaning system.now)) p q → ⊥) (Arc (S.CcSystem.meaning system.now) (AllOf (S.CcSystem.meaning system.now)) p) }
 {
-    for q in 0..system.count() {
-        if is_arc(system, p, q) {
-            return Some(q);
-        }
-    }
-    None
+    (0..system.count()).find(|q| is_arc(system, p, *q))
 }

@@ -1,14 +1,14 @@
 //! The Delaunay star of a point.
 
-ghost use Rattle.std.specs.Prelude.{◌≡◌, ℕ, ◌-◌, ◌<◌, ◌≤◌, length, take, MatchBool, MatchOption};
-ghost use Rattle.laws.specs.Systems.{Left};
-ghost use Rattle.models.specs.Places.{plane};
+ghost use Rattle.std.specs.Prelude.{◌≡◌, ℕ, ◌-◌, ◌<◌, ◌≤◌, length, MatchOption, MatchResult};
 ghost use Rattle.models.specs.Stars.{other};
-ghost use Rattle.systems.specs.Openings.{Starred};
+ghost use Rattle.systems.specs.Openings.{Starred, StarRefused};
 ghost use Rattle.sections.specs.Delaunay.{Delaunay, StarPairs, StarAnswer};
 
 use super::arcs::{arc_from, turns_left};
+use arrayvec::ArrayVec;
 use cc::CcSystem;
+use cc::checks::Checked;
 use cc::faults::Fault;
 use systems::points::Points;
 use systems::stars::Star;
@@ -16,46 +16,51 @@ use systems::stars::Star;
 // The most marks that a system has.
 const LIMIT: usize = 128;
 
-// Whether p and q are seen from c in the counterclockwise order.
-fn faces(points: &Points<'_>, c: usize, p: usize, q: usize) -> bool
-    ensures faces { MatchBool result (Left (plane points.now.places.now) c p q) (Left (plane points.now.places.now) c p q → ⊥) }
-{
-    turns_left(points, c, p, q)
+// A mark of a points system, and the star about it.
+#[derive(Clone, Copy)]
+struct Centre<'a> {
+    points: Points<'a>,
+    star: Star<'a>,
+    mark: usize,
+    ghost tied: { (star.places.now ≡ points.places.now) × (star.centre ≡ mark) },
+    ghost starred: { Starred points.places.now mark },
 }
 
-// The pair of the star about c whose first point is the one that mark i means.
-fn facing_pair(points: &Points<'_>, star: &Star<'_>, c: usize, i: usize) -> Option<(usize, usize)>
-    requires tied { (star.now.places.now ≡ points.now.places.now) × (star.now.centre ≡ c) }
-    requires starred { Starred points.now.places.now c }
-    requires mark { i < length points.now.places.now - 1 }
-    ensures pair { MatchOption result ((q : ℕ) → Delaunay points.now.places.now c (other c i) q → ⊥) (λ t. (t.0 ≡ other c i) × Delaunay points.now.places.now c t.0 t.1) }
-{
-    let j = arc_from(star, i)?;
-    let p = star.point(i)?;
-    let q = star.point(j)?;
-    if faces(points, c, p, q) {
-        Some((p, q))
-    } else {
-        None
+impl<'a> Centre<'a> {
+    fn of(points: &Points<'a>, mark: usize) -> Result<Centre<'a>, Fault>
+        ensures judged { MatchResult result (λ c. (c.points.places.now ≡ points.now.places.now) × (c.mark ≡ mark)) (StarRefused points.now.places.now mark) }
+    {
+        let star = Star::about(points, mark).checked()?;
+        Ok(Centre {
+            points: *points,
+            star,
+            mark,
+        })
     }
-}
 
-// Writes all pairs of the star about c at the front of the list, and answers how many.
-fn all_pairs(points: &Points<'_>, star: &Star<'_>, c: usize, pairs: &mut [(usize, usize)]) -> usize
-    requires tied { (star.now.places.now ≡ points.now.places.now) × (star.now.centre ≡ c) }
-    requires starred { Starred points.now.places.now c }
-    requires room { (length pairs.old ≡ 128) × (length points.now.places.now ≤ 128) }
-    ensures few { result ≤ 128 }
-    ensures pairs { StarPairs points.now.places.now c (take result pairs.new) }
-{
-    let mut n = 0;
-    for i in 0..star.count() {
-        if let Some(pair) = facing_pair(points, star, c, i) {
-            pairs[n] = pair;
-            n += 1;
+    // The pair whose first point is the one that mark i of the star means.
+    fn pair(&self, i: usize) -> Option<(usize, usize)>
+        requires mark { i < length self.now.points.places.now - 1 }
+        ensures pair { MatchOption result ((q : ℕ) → Delaunay self.now.points.places.now self.now.mark (other self.now.mark i) q → ⊥) (λ t. (t.0 ≡ other self.now.mark i) × Delaunay self.now.points.places.now self.now.mark t.0 t.1) }
+    {
+        let j = arc_from(&self.star, i)?;
+        let p = self.star.point(i)?;
+        let q = self.star.point(j)?;
+        turns_left(&self.points, self.mark, p, q).then_some((p, q))
+    }
+
+    // All pairs, in the rising order of their first points.
+    fn pairs(&self) -> ArrayVec<(usize, usize), LIMIT>
+        ensures pairs { StarPairs self.now.points.places.now self.now.mark result.items }
+    {
+        let mut pairs = ArrayVec::new();
+        for i in 0..self.star.count() {
+            if let Some(pair) = self.pair(i) {
+                pairs.push(pair);
+            }
         }
+        pairs
     }
-    n
 }
 
 // Writes the pairs (p, q) of the star about c at the front of the list, in rising p, and answers how many:
@@ -63,15 +68,11 @@ fn all_pairs(points: &Points<'_>, star: &Star<'_>, c: usize, pairs: &mut [(usize
 pub fn star(points: &Points<'_>, c: usize, pairs: &mut [(usize, usize)]) -> Result<usize, Fault>
     ensures answer { StarAnswer points.now.places.now c pairs.old pairs.new result }
 {
-    let star = Star::about(points, c);
-    if let Some(fault) = star.fault() {
-        return Err(fault);
-    }
-    let mut found = [(0, 0); LIMIT];
-    let n = all_pairs(points, &star, c, &mut found);
+    let found = Centre::of(points, c)?.pairs();
+    let n = found.len();
     if pairs.len() < n {
         return Err(Fault::Tight(n));
     }
-    pairs[0..n].copy_from_slice(&found[0..n]);
+    pairs[..n].copy_from_slice(&found);
     Ok(n)
 }

@@ -1,9 +1,9 @@
 //! The length of a tape around a ring of points.
 
-ghost use Rattle.std.specs.Prelude.{◌≡◌, ℕ, ◌^◌, ◌<◌, ◌≤◌, length, MatchOption};
+ghost use Rattle.std.specs.Prelude.{◌≡◌, ℕ, ◌^◌, ◌<◌, ◌≤◌, length, MatchResult};
 ghost use Rattle.laws.specs.First.{Never};
 ghost use Rattle.models.specs.Places.{Near, place};
-ghost use Rattle.sections.specs.Tapes.{Root, squared, follower, Taped, Strange, FirstStranger, TapeAnswer};
+ghost use Rattle.sections.specs.Tapes.{Root, squared, Taped, Strange, FirstStranger, TapeAnswer};
 
 use cc::CcSystem;
 use cc::faults::Fault;
@@ -36,29 +36,15 @@ fn step_between(points: &Points<'_>, p: usize, q: usize) -> u64
     step(places[p], places[q])
 }
 
-// The entry that follows the i-th on the ring.
-fn next_on(ring: &[usize], i: usize) -> usize
-    requires { i < length ring.now }
-    ensures follows { result ≡ follower ring.now i }
-{
-    if i + 1 < ring.len() {
-        ring[i + 1]
-    } else {
-        ring[0]
-    }
-}
-
-// The fault of the first entry that is no mark.
-fn first_stranger(points: &Points<'_>, ring: &[usize]) -> Option<Fault>
-    ensures first { MatchOption result (Never (length ring.now) (Strange points.now.places.now ring.now)) (FirstStranger points.now.places.now ring.now) }
+// Every entry is a mark; the fault names the first that is none.
+fn check_marks(points: &Points<'_>, ring: &[usize]) -> Result<(), Fault>
+    ensures first { MatchResult result (λ _. Never (length ring.now) (Strange points.now.places.now ring.now)) (FirstStranger points.now.places.now ring.now) }
 {
     let n = points.count();
-    for i in 0..ring.len() {
-        if ring[i] >= n {
-            return Some(Fault::Stranger(ring[i]));
-        }
+    match ring.iter().find(|mark| **mark >= n) {
+        Some(stranger) => Err(Fault::Stranger(*stranger)),
+        None => Ok(()),
     }
-    None
 }
 
 // The steps around the ring, added.
@@ -67,9 +53,10 @@ fn length_around(points: &Points<'_>, ring: &[usize]) -> u64
     requires marks { Never (length ring.now) (Strange points.now.places.now ring.now) }
     ensures taped { Taped points.now.places.now ring.now result }
 {
+    let (first, rest) = ring.split_at(ring.len().min(1));
     let mut total = 0;
-    for i in 0..ring.len() {
-        total += step_between(points, ring[i], next_on(ring, i));
+    for (p, q) in ring.iter().zip(rest.iter().chain(first)) {
+        total += step_between(points, *p, *q);
     }
     total
 }
@@ -81,8 +68,6 @@ pub fn tape(points: &Points<'_>, ring: &[usize]) -> Result<u64, Fault>
     if ring.len() > LIMIT {
         return Err(Fault::Outsize(LIMIT));
     }
-    if let Some(fault) = first_stranger(points, ring) {
-        return Err(fault);
-    }
+    check_marks(points, ring)?;
     Ok(length_around(points, ring))
 }

@@ -7,39 +7,44 @@ use sheet::Kind;
 use std::alloc::Global;
 use std::fmt::Write;
 
-fn points_told(heap: Global, n: usize, places: &[Place]) -> anyhow::Result<String> {
-    let mut told = String::new(heap);
-    write!(told, "P {n}")?;
-    for place in places.iter().take(n) {
-        let x = place.x;
-        let y = place.y;
-        write!(told, " {x},{y}")?;
-    }
-    Ok(told)
+// A value of a sheet, as an answer tells it.
+trait Value {
+    fn tell(&self, told: &mut String) -> anyhow::Result<()>;
 }
 
-fn network_told(heap: Global, n: usize, crossings: &[usize]) -> anyhow::Result<String> {
-    let mut told = String::new(heap);
-    write!(told, "W {n}")?;
-    let pairs = n.saturating_mul(n.saturating_sub(1)) / 2;
-    for k in crossings.iter().take(pairs) {
-        write!(told, " {k}")?;
+impl Value for Place {
+    fn tell(&self, told: &mut String) -> anyhow::Result<()> {
+        let Place { x, y } = *self;
+        Ok(write!(told, "{x},{y}")?)
     }
-    Ok(told)
 }
 
-fn table_told(heap: Global, n: usize, turns: &[Turn]) -> anyhow::Result<String> {
-    let mut told = String::new(heap);
-    write!(told, "T {n}")?;
-    let triples = n
-        .saturating_mul(n.saturating_sub(1))
-        .saturating_mul(n.saturating_sub(2))
-        / 6;
-    for turn in turns.iter().take(triples) {
-        match turn {
-            Turn::Left => told.push_str(" L")?,
-            Turn::Right => told.push_str(" R")?,
-        }
+impl Value for usize {
+    fn tell(&self, told: &mut String) -> anyhow::Result<()> {
+        Ok(write!(told, "{self}")?)
+    }
+}
+
+impl Value for Turn {
+    fn tell(&self, told: &mut String) -> anyhow::Result<()> {
+        Ok(told.push_str(match self {
+            Turn::Left => "L",
+            Turn::Right => "R",
+        })?)
+    }
+}
+
+// The letter, the count, and the values that stand at the front of the list.
+fn sheet_told<V: Value>(
+    heap: Global,
+    kind: Kind,
+    count: usize,
+    list: &[V],
+) -> anyhow::Result<String> {
+    let mut told = format!(in heap; "{kind} {count}")?;
+    for value in list.iter().take(kind.due(count)) {
+        told.push(' ')?;
+        value.tell(&mut told)?;
     }
     Ok(told)
 }
@@ -56,9 +61,11 @@ pub(crate) fn answer(heap: Global, room: usize, text: &[u8]) -> anyhow::Result<S
     let mut crossings = vec![in heap; 0; room]?;
     let mut turns = vec![in heap; Turn::Left; room]?;
     match sheet::read(text, &mut places, &mut crossings, &mut turns) {
-        Ok((Kind::Points, n)) => points_told(heap, n, &places),
-        Ok((Kind::Network, n)) => network_told(heap, n, &crossings),
-        Ok((Kind::Table, n)) => table_told(heap, n, &turns),
+        Ok((kind, count)) => match kind {
+            Kind::Points => sheet_told(heap, kind, count, &places),
+            Kind::Network => sheet_told(heap, kind, count, &crossings),
+            Kind::Table => sheet_told(heap, kind, count, &turns),
+        },
         Err(fault) => refusal_told(heap, fault),
     }
 }

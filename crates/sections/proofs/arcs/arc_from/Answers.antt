@@ -1,8 +1,14 @@
-use Rattle.std.proofs.Common.{◌<◌, arith, below_more}
+use Rattle.std.proofs.Common.{rules}
+use Rattle.std.proofs.lemmas.Iterator.{first_from_Range}
+use Rattle.laws.specs.Outlines.{Arc}
+use Rattle.sections.specs.Delaunay.{AllOf}
+use Rattle.sections.proofs.Tested.{first_arc}
 use Rattle.sections.proofs.arcs.arc_from.Goals as goal
 
-pub loop-q-preserved : goal.loop-q-preserved
-loop-q-preserved g c = below_more _ _ c.loop-q.invariant c.if-is_arc.ensures.arc
-
 pub returns : goal.returns
-returns g c = record { arc = λ q a. let l : q < c.loop-q.q = omega (arith, a.to, c.count-q-end.ensures.marks, c.loop-q-test.false) in c.loop-q.invariant q l a }
+returns g c =
+    let m = g.S.CcSystem.meaning c.args.system.now in
+    record {
+      arc = first_arc m c.args.p c.count.result c.find.result c.count.ensures.marks
+          (first_from_Range _ _ _ c.find.result (Arc m (AllOf m) c.args.p) (λ q. Arc m (AllOf m) c.args.p q → ⊥) c.find.ensures.ran (λ x s k. search rules) (λ x s k. search rules));
+    }
