@@ -1,7 +1,7 @@
--- The reports of opened systems, put together from what was written.
-use Rattle.std.proofs.Common.{◌≡◌, ℕ, zero, suc, ◌<◌, ◌≤◌, List, [], ◌∷◌, ◌++◌, length, Some, None, codes, sym, refl, ap, ◌∙◌, subst, append-nil, arith, ltb→lt}
+-- The report of an opened system, put together from what was written.
+use Rattle.std.proofs.Common.{◌≡◌, ℕ, zero, suc, ◌<◌, ◌≤◌, List, [], ◌++◌, length, None, codes, sym, refl, ap, ◌∙◌, subst, append_assoc, arith, ltb→lt}
 use Rattle.cc.specs.declared.faults.Fault.{Fault}
-use Rattle.laws.specs.Systems.{Meaning, Lawful}
+use Rattle.laws.specs.Systems.{Lawful}
 use Rattle.models.specs.declared.places.Place.{Place}
 use Rattle.models.specs.Places.{plane}
 use Rattle.runs.specs.Calls.{RingOf}
@@ -9,16 +9,17 @@ use Rattle.runs.proofs.Standing.{ring_in}
 use Rattle.systems.specs.Openings.{StarRefused}
 use Rattle.sections.specs.Delaunay.{StarPairs, StarDeclined, pair, refused, tight}
 use Rattle.sections.specs.Tapes.{TapeRefused}
-use Rattle.sheet.specs.Sheets.{Value}
-use Rattle.sheet.specs.Shapes.{letter}
 use Rattle.sheet.specs.declared.Kind.{Kind}
-use Rattle.reports.specs.Lines.{fault_line, line, ring_line, round_lines}
+use Rattle.reports.specs.Lines.{fault_line, kind_line, ring_line, round_lines}
 use Rattle.reports.specs.Layers.{first, Layered}
-use Rattle.opening.specs.Opening.{Judged, system}
-use Rattle.reports.specs.Reports.{Sections, Told, told}
+use Rattle.systems.specs.declared.points.Points.{Points}
+use Rattle.opening.specs.declared.opened.Opened.{Opened}
+use Rattle.opening.specs.declared.opened.Opened.TheVariants as opened
+use Rattle.opening.specs.Opening.{Judged, Opens, Refused, count_of, kind_of, meaning_of, unopened, unread, values_of}
 use Rattle.reports.specs.Reports as report
-use Rattle.reports.proofs.Adding.{first_marks, ring_few}
 use Rattle.reports.proofs.Texts.{from_empty}
+use Rattle.reports.specs.Reports.{Adds, Reports, Sections, StarTold, TapeTold, Told, of_network, of_points, of_table, told}
+use Rattle.reports.proofs.Adding.{first_marks, ring_few}
 
 -- the first points of a star's pairs rise, so there are no more pairs than points
 climbs : (ps : List Place) (c : ℕ) (l : List (ℕ × ℕ)) → StarPairs ps c l → (k : ℕ) → k < length l → k ≤ (pair l k).0
@@ -43,18 +44,44 @@ tape_fits ps ring f L r h =
     let n = s.first.holds in
     omega arith
 
--- a list that is refused
-pub refused_by : (k : Kind) (n : ℕ) (vs : List (Value k)) (f : Fault) (e x : List ℕ) → Judged k n vs (Some f) → e ≡ [] → x ≡ e ++ fault_line (codes "no") f → Told k n vs x
-refused_by k n vs f e x judged p q = subst (Told k n vs) (sym (from_empty e x _ p q)) (report.refused f judged)
+-- the count that is told is that of the system
+counted : (o : Opened) → (meaning_of o).count ≡ count_of o
+counted (opened.Points p) = refl
+counted (opened.Network w) = refl
+counted (opened.Table t) = refl
 
--- one that is told
-pub told_by : (k : Kind) (n : ℕ) (vs : List (Value k)) (ring rounds rest x : List ℕ) → Judged k n vs None → Layered (system k n vs) ring rounds → Sections k vs ring rest
-    → x ≡ line (codes "kind" ++ 9 ∷ letter k ∷ []) (n ∷ []) ++ ring_line ring ++ round_lines rounds ++ rest → Told k n vs x
-told_by k n vs ring rounds rest x judged layered sections e = subst (Told k n vs) (sym e) (report.told judged layered sections)
+-- a system that is no points has no more lines than those of its layers
+pub plain : (o : Opened) (ring : List ℕ) → ((p : Points) → o ≡ opened.Points p → ⊥) → Sections (kind_of o) (values_of o) ring []
+plain (opened.Points p) ring none = absurd (none p refl)
+plain (opened.Network w) ring none = of_network
+plain (opened.Table t) ring none = of_table
 
--- one of a kind that has no more lines than those of its layers
-pub told_plainly : (k : Kind) (n : ℕ) (vs : List (Value k)) (m : Meaning) (ring rounds e x : List ℕ) → m ≡ system k n vs → m.count ≡ n → Judged k n vs None → Layered m ring rounds → Sections k vs ring []
-    → e ≡ [] → x ≡ e ++ (line (codes "kind" ++ 9 ∷ letter k ∷ []) (m.count ∷ []) ++ ring_line ring ++ round_lines rounds) → Told k n vs x
-told_plainly k n vs m ring rounds e x same many judged layered sections p q =
-    told_by k n vs ring rounds [] x judged (subst (λ j. Layered j ring rounds) same layered) sections
-    (from_empty e x _ p q ∙ (ap (λ c. line (codes "kind" ++ 9 ∷ letter k ∷ []) (c ∷ []) ++ ring_line ring ++ round_lines rounds) many ∙ sym (append-nil _)))
+-- the layers of a system, and what follows them
+pub told_with : (o : Opened) (kind : Kind) (n : ℕ) (ring rounds rest before after last : List ℕ) → Judged (kind_of o) (count_of o) (values_of o) None → kind ≡ kind_of o → n ≡ (meaning_of o).count
+    → Layered (meaning_of o) ring rounds → after ≡ before ++ (kind_line kind n ++ ring_line ring ++ round_lines rounds) → Sections (kind_of o) (values_of o) ring rest → last ≡ after ++ rest
+    → Adds (Told (kind_of o) (count_of o) (values_of o)) before last
+told_with o kind n ring rounds rest before after last judged kinds many layered written sections more = (
+  kind_line (kind_of o) (count_of o) ++ ring_line ring ++ round_lines rounds ++ rest,
+  told judged layered sections,
+  more ∙ ap (λ l. l ++ rest) written ∙ append_assoc before (kind_line kind n ++ ring_line ring ++ round_lines rounds) rest
+      ∙ (λ i. before ++ (kind_line (kinds i) ((many ∙ counted o) i) ++ ring_line ring ++ round_lines rounds ++ rest)),
+)
+
+-- the star and the tape of a system of points
+pub pointed : (o : Opened) (p : Points) (ring ring' star tape : List ℕ) → o ≡ opened.Points p → ring' ≡ ring → StarTold p.places.now star → TapeTold p.places.now ring' tape
+    → Sections (kind_of o) (values_of o) ring (star ++ tape)
+pointed o p ring ring' star tape is same s t =
+    subst (λ o. Sections (kind_of o) (values_of o) ring (star ++ tape)) (sym is) (of_points s (subst (λ r. TapeTold p.places.now r tape) same t))
+
+-- a text that is refused
+pub refusal_reported : (text : List ℕ) (f : Fault) (before after : List ℕ) → Refused text f → before ≡ [] → after ≡ before ++ fault_line (codes "no") f → Reports text after
+refusal_reported text f before after h empty is = subst (Reports text) (sym (from_empty before after _ empty is)) (of h)
+  where
+    of : {f : Fault} → Refused text f → Reports text (fault_line (codes "no") f)
+    of (unread declined) = report.Reports.refused _ declined
+    of (unopened holds judged) = report.Reports.told holds (report.Told.refused _ judged)
+
+-- a system that is told
+pub system_reported : (text : List ℕ) (o : Opened) (before after : List ℕ) → Opens text o → before ≡ [] → Adds (Told (kind_of o) (count_of o) (values_of o)) before after → Reports text after
+system_reported text o before after opens empty (part, all, is) =
+    subst (Reports text) (sym (from_empty before after part empty is)) (report.Reports.told opens.holds all)

@@ -1,8 +1,9 @@
 -- Texts that are written part by part.
-use Rattle.std.proofs.Common.{◌≡◌, ℕ, ◌+◌, List, [], ◌++◌, take, sym, ap, ◌∙◌, append_assoc, add-one}
+use Rattle.std.proofs.Common.{◌≡◌, ℕ, ◌+◌, List, [], ◌++◌, take, Ok, Err, Result, OnOk, sym, ap, ◌∙◌, append_assoc, add-one}
 use native.Mathlib.Nat.{sub-zero}
 use Rattle.std.specs.List.{between}
 use Rattle.reports.specs.Lines.{each}
+use Rattle.reports.specs.Reports.{Adds}
 
 -- two parts after what was there
 pub both_parts : (e a b a' b' : List ℕ) → a ≡ a' → b ≡ b' → (e ++ a) ++ b ≡ e ++ (a' ++ b')
@@ -27,3 +28,8 @@ from_empty e x t p q = q ∙ ap (λ k. k ++ t) p
 -- the front of a list as a part of it
 pub front_part : {X : Type 0} (n : ℕ) (l : List X) → between 0 n l ≡ take n l
 front_part n l = ap (λ k. take k l) (sub-zero n)
+
+-- what a text that was added at the end says
+pub adding : {V E : Type 0} (P : List ℕ → Type 0) (r : Result V E) (before after text : List ℕ) → P text → OnOk r (after ≡ before ++ text) → OnOk r (Adds P before after)
+adding P (Ok _) before after text told is = (text, told, is)
+adding P (Err _) before after text told is = tt

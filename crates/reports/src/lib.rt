@@ -23,10 +23,14 @@ pub fn report(heap: Global, text: &[u8]) -> Result<String, AllocError>
 {
     let mut out = String::new(heap);
     let mut room = Room::new();
-    match open(&mut room, text) {
-        Ok(system) => write_told(&mut out, &system)?,
-        Err(fault) => write_refusal(&mut out, fault)?,
-    }
+    let system = match open(&mut room, text) {
+        Ok(system) => system,
+        Err(fault) => {
+            write_refusal(&mut out, fault)?;
+            return Ok(out);
+        }
+    };
+    write_told(&mut out, &system)?;
     Ok(out)
 }
 
