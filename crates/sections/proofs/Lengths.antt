@@ -29,12 +29,6 @@ pub record TapedBelow (ps : List Place) (ring : List ℕ) (n total : ℕ) : Type
   pub adds : total ≡ sum steps
 
 module _ (ps : List Place) (ring : List ℕ) where
-  pub tape_none : TapedBelow ps ring 0 0
-  tape_none = record { steps = []; one_each = refl; roots = λ i l. absurd (none i l); adds = refl }
-    where
-      none : (i : ℕ) → i < 0 → ⊥
-      none i l = omega arith
-
   pub tape_more : (n total r : ℕ) → TapedBelow ps ring n total → Root (squared (place ps (entry ring n)) (place ps (follower ring n))) r → TapedBelow ps ring (n + 1) (total + r)
   tape_more n total r h k =
       record {
@@ -51,10 +45,6 @@ module _ (ps : List Place) (ring : List ℕ) where
         ];
         adds = ap (λ m. m + r) h.adds ∙ sym (sum_by_push (λ x. x) h.steps r);
       }
-
-  pub tape_all : (n total : ℕ) → n ≡ length ring → TapedBelow ps ring n total → Taped ps ring total
-  tape_all n total e h =
-      record { steps = h.steps; one_each = h.one_each ∙ e; roots = λ i l. h.roots i (omega arith); adds = h.adds }
 
 -- ---- the steps of a ring, by the ring and its rotation by one entry
 

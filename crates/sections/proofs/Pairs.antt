@@ -1,5 +1,5 @@
 -- The list of a star's pairs, as it grows.
-use Rattle.std.proofs.Common.{◌≡◌, ℕ, ◌+◌, ◌-◌, ◌<◌, ◌≤◌, ◌≢◌, ◌⊎◌, List, [], ◌∷◌, ◌++◌, length, drop, sym, refl, ap, ◌∙◌, subst, inl, inr, arith}
+use Rattle.std.proofs.Common.{◌≡◌, ℕ, ◌+◌, ◌<◌, ◌≤◌, ◌≢◌, ◌⊎◌, List, [], ◌∷◌, ◌++◌, length, drop, sym, refl, ap, ◌∙◌, subst, inl, inr, arith}
 use native.Mathlib.Decide.{dec_lt}
 use Rattle.std.proofs.lemmas.List.{get_or_append_left, get_or_push, length_push, take_at, drop_at}
 use Rattle.models.specs.declared.places.Place.{Place}
@@ -41,25 +41,6 @@ same a b n k = elim (dec_lt b a) [ yes h ↦ absurd (n (k (λ e. differ h e))) |
     differ h e = omega arith
 
 module _ (ps : List Place) (c : ℕ) where
-  pub pairs_none : PairsBelow ps c (other c 0) []
-  pairs_none =
-      record {
-        each = λ k l. absurd (none k l);
-        low = λ k l. absurd (none k l);
-        all = λ p q l d. absurd (first p l (λ e. d.turns.three.p≢q (sym e)) (other_is c 0));
-        rising = λ j k l m. absurd (none k m);
-      }
-    where
-      none : (k : ℕ) → k < 0 → ⊥
-      none k l = omega arith
-
-      first : (p : ℕ) → p < other c 0 → p ≢ c → Other c 0 (other c 0) → ⊥
-      first p l n o = least (other_is c 0) l
-        where
-          least : {b : ℕ} → Other c 0 b → p < b → ⊥
-          least (under h) m = omega arith
-          least (past h) m = n (omega arith)
-
   -- mark i has no pair
   pub pairs_pass : (i : ℕ) (l : List (ℕ × ℕ)) → PairsBelow ps c (other c i) l → ((q : ℕ) → Delaunay ps c (other c i) q → ⊥) → PairsBelow ps c (other c (i + 1)) l
   pairs_pass i l h n =
@@ -126,15 +107,6 @@ module _ (ps : List Place) (c : ℕ) where
   pairs_add i l x below e d one =
       subst (λ p. PairsBelow ps c (other c (i + 1)) (l ++ (p, x.1) ∷ [])) (sym e)
       (pairs_push i x.1 l below (subst (λ p. Delaunay ps c p x.1) e d) one)
-
-  -- all marks came
-  pub pairs_all : (i : ℕ) (l : List (ℕ × ℕ)) → c < length ps → length ps - 1 ≤ i → PairsBelow ps c (other c i) l → StarPairs ps c l
-  pairs_all i l hc hi h =
-      record { each = h.each; all = λ p q d. h.all p q (omega (arith, d.turns.three.q_in, reach (other_is c i))) d; rising = h.rising }
-    where
-      reach : {b : ℕ} → Other c i b → length ps ≤ b
-      reach (under h) = omega arith
-      reach (past h) = omega arith
 
 -- the list after the copy of the found pairs to its front
 pub copied : (ps : List Place) (c n : ℕ) (before found part : List (ℕ × ℕ)) → Starred ps c → n ≤ length before → length found ≡ n → part ≡ found → StarPairs ps c found → StarWritten ps c n before (part ++ drop n before)
