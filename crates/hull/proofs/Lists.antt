@@ -1,8 +1,9 @@
 -- Rings as lists: places, the mark that follows, one mark more.
-use Rattle.std.proofs.Common.{◌≡◌, ℕ, zero, suc, ◌+◌, ◌<◌, ◌≤◌, List, [], ◌∷◌, ◌++◌, length, get_or, take, drop, sym, refl, ap, ◌∙◌, subst, add-one, arith, take-append-drop, drop-cons}
+use Rattle.std.proofs.Common.{◌≡◌, ℕ, zero, suc, ◌+◌, ◌-◌, ◌<◌, ◌≤◌, List, [], ◌∷◌, ◌++◌, length, get_or, take, drop, sym, refl, ap, ◌∙◌, subst, add-one, arith, take-append-drop, drop-cons}
 use lib.ListN.{get_or-append}
 use lib.Seq.{get_or_at}
 use Rattle.std.specs.List.{AllByRecursion}
+use Rattle.std.proofs.lemmas.Grind.{common_steps}
 use Rattle.std.proofs.ByRecursion.{All-append, All-from_get_or}
 use Rattle.laws.specs.Outlines.{Follows, ReadOut}
 use Rattle.laws.proofs.Walks.{all_cut}
@@ -22,6 +23,31 @@ rotated_last (a ∷ l) i h k = get_or_at l a [] 0 i (omega arith)
 pub follows_at : (l : List ℕ) (i : ℕ) → i < length l → Follows l (get_or l i 0) (get_or (rotated l) i 0)
 follows_at [] i h = absurd (omega arith)
 follows_at (a ∷ l) i h = at_place a l a _ _ (i, h, refl, refl)
+
+-- a way along l, a mark after another: k is l as a slice, whose marks behind the first are gone through, and i is how many have been
+module _ (l k : List ℕ) (i : ℕ) (e : k ≡ l) where
+  abbrev behind : List ℕ
+  behind = take (length k - 1) (drop 1 k)
+
+  long : length k ≡ length l
+  long = ap length e
+
+  pub next_at : i < length behind → (i + 1 < length l) × (get_or behind i 0 ≡ get_or l (i + 1) 0) × (get_or behind i 0 ≡ get_or (rotated l) i 0)
+  next_at h =
+      let same_length = long in
+      let inside : i + 1 < length l = grind (arith, common_steps) in
+      let next_is : get_or behind i 0 ≡ get_or l (i + 1) 0 = grind (arith, common_steps) in
+      (inside, next_is, next_is ∙ sym (rotated_next l i inside))
+
+  pub last_at : 0 < length l → length behind ≤ i → i ≤ length behind
+      → (i + 1 ≡ length l) × (get_or k (length k - 1) 0 ≡ get_or l i 0) × (get_or k 0 0 ≡ get_or (rotated l) i 0)
+  last_at some most least =
+      let same_length = long in
+      let n : i + 1 ≡ length l = grind (arith, common_steps) in (
+        n,
+        ap (λ b. get_or b (length b - 1) 0) e ∙ ap (λ j. get_or l j 0) (omega arith),
+        ap (λ b. get_or b 0 0) e ∙ sym (rotated_last l i (omega arith) (omega arith)),
+      )
 
 -- the list from a place on, and round to it, starts at its lowest mark if that stands there
 pub read_out_from : (l : List ℕ) (p : ℕ) → (0 < length l → p < length l) → ((i : ℕ) → i < length l → get_or l p 0 ≤ get_or l i 0) → ReadOut (drop p l ++ take p l)

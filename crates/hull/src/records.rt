@@ -5,6 +5,8 @@ ghost use Rattle.std.specs.Prelude.{◌≡◌, length};
 use super::rings::Ring;
 
 // Whether a mark is in, and its two neighbours on the outline; of a mark that is not on it the neighbours say nothing.
+// Stays a flag beside two numbers: were the neighbours an `Option`, each mark that leaves the outline would have to be
+// found and cleared.
 #[derive(Clone, Copy)]
 pub struct Record {
     pub(crate) is_in: bool,

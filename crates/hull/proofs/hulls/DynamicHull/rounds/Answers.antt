@@ -1,22 +1,11 @@
-use Rattle.std.proofs.Common.{take, sym, subst, arith}
+use Rattle.std.proofs.Common.{take, subst, arith}
 use mathlib.Core.Path.{fun_ext}
-use Rattle.laws.specs.Outlines.{Marks}
-use Rattle.laws.specs.Theorems.{of}
 use Rattle.runs.specs.Calls.{Rounds}
 use Rattle.hull.proofs.Telling.{counts_by, tight_by}
 use Rattle.hull.proofs.hulls.DynamicHull.rounds.Goals as goal
 
 pub returns-then-list-count : goal.returns-then-list-count
 returns-then-list-count g c = record { answer = tight_by c.args.list.now c.count-count.result c.count-count.ensures.marks c.if-list-count.true }
-
-pub rounds_of-requires : goal.rounds_of-requires
-rounds_of-requires g c =
-    let h = c.args.self.now in
-    let m = g.S.CcSystem.meaning h.system in
-    record {
-      marks = subst (λ s. Marks m (of s)) (sym (fun_ext c.flags-flags.ensures.flags)) h.sound.marks;
-      room = omega (arith, c.count-count.ensures.marks, c.if-list-count.false);
-    }
 
 pub returns : goal.returns
 returns g c =
