@@ -7,7 +7,7 @@ use Rattle.runs.specs.Calls.{Answer, edge, inside, added, dropped, at, within, b
 use Rattle.hull.specs.Histories.{Called}
 use Rattle.sheet.specs.Sheets.{Declines, Holds, Lists, Value}
 use Rattle.sheet.specs.declared.Kind.{Kind}
-use Rattle.reports.specs.Reports.{Judged, system}
+use Rattle.opening.specs.Opening.{Judged, system}
 use Rattle.shell.specs.Dialogues.{call_of}
 use Rattle.shell.specs.declared.commands.Verb.{Verb}
 use Rattle.shell.specs.declared.commands.Verb.TheVariants.{Add, Drop, Place, Neighbours, Outline, Rounds}

@@ -1,19 +1,15 @@
 //! Calls that are pairs of bytes, and what their answers are worth, added up.
 
-ghost use Rattle.std.specs.Prelude.{◌≡◌, ℕ, false, ◌≢◌, length, MatchOption};
-ghost use Rattle.sheet.specs.declared.Kind.TheVariants.{Points as points, Network as network, Table as table};
+ghost use Rattle.std.specs.Prelude.{◌≡◌, ℕ, false, ◌≢◌, MatchOption};
 ghost use Rattle.hull.specs.Records.{held};
-ghost use Rattle.frame.specs.Tallies.{Counted, Tally, Total, Totals, letter};
+ghost use Rattle.frame.specs.Tallies.{Tally, Total, Totals, letter};
 
 use super::answers::of_call;
-use cc::{CcSystem, Turn};
+use cc::CcSystem;
 use hull::hulls::DynamicHull;
-use models::places::Place;
-use sheet::{Kind, read};
+use opening::open;
+use sheet::Room;
 use shell::commands::Verb;
-use systems::networks::ReflectionNetwork;
-use systems::points::Points;
-use systems::tables::TurnTable;
 
 // The call that a letter means.
 fn verb_of(byte: u8) -> Option<Verb>
@@ -61,59 +57,13 @@ fn tally_over<S: CcSystem + Drop>(system: S, calls: &[u8], times: usize) -> usiz
     total
 }
 
-// Opens the system of the places, and makes the calls.
-fn tally_points(places: &[Place], calls: &[u8], times: usize) -> usize
-    ensures counted { Counted points (length places.now) places.now calls.now times result }
-{
-    let points = Points::open(places);
-    match points.fault() {
-        Some(_) => 0,
-        None => tally_over(points, calls, times),
-    }
-}
-
-// Opens the reflection network of the crossings, and makes the calls.
-fn tally_network(count: usize, crossings: &[usize], calls: &[u8], times: usize) -> usize
-    ensures counted { Counted network count crossings.now calls.now times result }
-{
-    let network = ReflectionNetwork::open(count, crossings);
-    match network.fault() {
-        Some(_) => 0,
-        None => tally_over(network, calls, times),
-    }
-}
-
-// Opens the turn table, and makes the calls.
-fn tally_table(count: usize, turns: &[Turn], calls: &[u8], times: usize) -> usize
-    ensures counted { Counted table count turns.now calls.now times result }
-{
-    let table = TurnTable::open(count, turns);
-    match table.fault() {
-        Some(_) => 0,
-        None => tally_over(table, calls, times),
-    }
-}
-
 // Opens the sheet, and makes the calls; 0 where it is refused.
 pub(crate) fn tally(text: &[u8], calls: &[u8], times: usize) -> usize
     ensures tally { Tally text.now calls.now times result }
 {
-    let mut places = [Place { x: 0, y: 0 }; 128];
-    let mut crossings = [0; 496];
-    let mut turns = [Turn::Left; 2024];
-    let (kind, n) = match read(text, &mut places, &mut crossings, &mut turns) {
-        Ok(head) => head,
-        Err(_) => return 0,
-    };
-    match kind {
-        Kind::Points => tally_points(&places[0..n], calls, times),
-        Kind::Network => {
-            let pairs = n * n.saturating_sub(1) / 2;
-            tally_network(n, &crossings[0..pairs], calls, times)
-        }
-        Kind::Table => {
-            let triples = n * n.saturating_sub(1) * n.saturating_sub(2) / 6;
-            tally_table(n, &turns[0..triples], calls, times)
-        }
+    let mut room = Room::new();
+    match open(&mut room, text) {
+        Ok(system) => tally_over(system, calls, times),
+        Err(_) => 0,
     }
 }

@@ -1,61 +1,8 @@
-use Rattle.std.proofs.Common.{◌≡◌, ◌*◌, ◌/◌, ◌≤◌, length, take, refl, ap, ◌∙◌, subst, arith}
-use Rattle.std.specs.List.{between}
-use Rattle.sheet.specs.Sheets.{due, lists}
-use Rattle.sheet.specs.declared.Kind.TheVariants.{Points, Network, Table}
-use Rattle.sheet.specs.Turnings.{pairs_few, triples_few}
-use Rattle.reports.proofs.Texts.{front_part}
-use Rattle.reports.proofs.Reading.{read_limit, read_long}
-use Rattle.frame.specs.Tallies.{Counted}
-use Rattle.frame.proofs.Opening.{counted, refused_text}
+use Rattle.frame.proofs.Opening.{counted, refused}
 use Rattle.frame.proofs.tallies.tally.Goals as goal
 
-pub slice_bounds-tally_network-end : goal.slice_bounds-tally_network-end
-slice_bounds-tally_network-end c =
-    let n = c.in-Ok.head.1 in
-    let m = c.saturating_sub.result in
-    let few = read_limit c.args.text.now _ Network n _ _ c.in-Network.is c.in-Ok.ensures.answers in
-    let bound : n * m / 2 ≤ 496 = pairs_few n m few (omega (arith, few, c.saturating_sub.ensures)) in
-    omega (arith, bound, c.read.auto.crossings)
-
-pub slice_bounds-tally_table-end : goal.slice_bounds-tally_table-end
-slice_bounds-tally_table-end c =
-    let n = c.in-Ok.head.1 in
-    let m = c.saturating_sub-in-Table.result in
-    let l = c.saturating_sub-in-Table-2.result in
-    let few = read_limit c.args.text.now _ Table n _ _ c.in-Table.is c.in-Ok.ensures.answers in
-    let bound : n * m * l / 6 ≤ 2024 = triples_few n m l few (omega (arith, few, c.saturating_sub-in-Table.ensures)) (omega (arith, few, c.saturating_sub-in-Table-2.ensures)) in
-    omega (arith, bound, c.read.auto.turns)
-
-pub returns-in-Points : goal.returns-in-Points
-returns-in-Points c =
-    let text = c.args.text.now in
-    let calls = c.args.calls.now in
-    let n = c.in-Ok.head.1 in
-    let last = c.read.new in
-    let after = lists last.places last.crossings last.turns in
-    let part = between 0 n last.places in
-    let reads = c.in-Ok.ensures.answers in
-    let is : part ≡ take n last.places = front_part n last.places in
-    let long : length part ≡ n = ap length is ∙ read_long text _ Points n _ after c.in-Points.is reads in
-    record { tally = counted text calls c.args.times _ Points n _ after c.in-Points.is reads part c.tally_points.result is (subst (λ j. Counted Points j part calls c.args.times c.tally_points.result) long c.tally_points.ensures.counted) }
-
-pub returns-in-Network : goal.returns-in-Network
-returns-in-Network c =
-    let n = c.in-Ok.head.1 in
-    let last = c.read.new in
-    let pairs = n * c.saturating_sub.result / 2 in
-    let is : between 0 pairs last.crossings ≡ take (due Network n) last.crossings = front_part pairs last.crossings ∙ ap (λ m. take (n * m / 2) last.crossings) c.saturating_sub.ensures in
-    record { tally = counted c.args.text.now c.args.calls.now c.args.times _ Network n _ (lists last.places last.crossings last.turns) c.in-Network.is c.in-Ok.ensures.answers (between 0 pairs last.crossings) c.tally_network.result is c.tally_network.ensures.counted }
-
-pub returns-in-Table : goal.returns-in-Table
-returns-in-Table c =
-    let n = c.in-Ok.head.1 in
-    let last = c.read.new in
-    let m = c.saturating_sub-in-Table.ensures in
-    let l = c.saturating_sub-in-Table-2.ensures in
-    let triples = n * c.saturating_sub-in-Table.result * c.saturating_sub-in-Table-2.result / 6 in
-    let is : between 0 triples last.turns ≡ take (due Table n) last.turns = front_part triples last.turns ∙ (λ i. take (n * m i * l i / 6) last.turns) in
-    record { tally = counted c.args.text.now c.args.calls.now c.args.times _ Table n _ (lists last.places last.crossings last.turns) c.in-Table.is c.in-Ok.ensures.answers (between 0 triples last.turns) c.tally_table.result is c.tally_table.ensures.counted }
+pub returns-in-Ok : goal.returns-in-Ok
+returns-in-Ok c = record { tally = counted c.args.text.now c.args.calls.now c.args.times c.in-Ok.system c.tally_over.result c.in-Ok.ensures.opened c.tally_over.ensures.total }
 
 pub returns-in-Err : goal.returns-in-Err
-returns-in-Err c = record { tally = refused_text c.args.text.now c.args.calls.now c.args.times _ c.in-Err.field-0 (record { places = refl; crossings = refl; turns = refl }) c.in-Err.ensures.answers.0 }
+returns-in-Err c = record { tally = refused c.args.text.now c.args.calls.now c.args.times c.in-Err.ensures.opened }
