@@ -40,6 +40,7 @@ pub enum Fault {
 
 impl Fault {
     // The number of the refusal, 1 to 14.
+    // stays a number: it is what a device and a sheet's report say, and two cases share one
     pub fn number(&self) -> usize
         ensures number { result ≡ number self.now }
     {
@@ -63,6 +64,7 @@ impl Fault {
     }
 
     // Its five places, those that it does not use 0.
+    // stays an array, with `places_used` beside it: each is a public answer, and text takes the slice of both
     pub fn places(&self) -> [usize; 5]
         ensures five { result ≡ five_places self.now }
     {

@@ -21,6 +21,7 @@ pub enum Turn {
 
 impl Turn {
     // The other way.
+    // stays a method: `!turn` would say less
     pub fn reversed(self) -> Turn
         ensures reversed { result ≡ other_way self }
     {

@@ -21,6 +21,7 @@ const LIMIT: usize = 128;
 pub struct Renaming<S: CcSystem> {
     below: S,
     names: ArrayVec<usize, 128>,
+    // stays beside what is held: opening cannot fail, and `checked` gives the system or the fault
     fault: Option<Fault>,
     // the names are different marks of the system below
     ghost apart: { T (different (S.CcSystem.meaning below).count names.items) },

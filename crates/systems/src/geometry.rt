@@ -33,7 +33,7 @@ pub(crate) fn outside(places: &[Place]) -> Option<usize>
 pub(crate) fn twins(places: &[Place]) -> Option<(usize, usize)>
     ensures first { MatchOption result (NeverPair (length places.now) (Twins places.now)) (λ p. FirstPair (length places.now) (Twins places.now) p.0 p.1) }
 {
-    // stays: numbers are what is sought, and a chain of `find_map` and `find` says it no plainer
+    // stays nested loops: the numbers are what is sought, and `find_map` over `find` is no plainer
     for i in 0..places.len() {
         for j in i + 1..places.len() {
             if places[i] == places[j] {

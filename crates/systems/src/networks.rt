@@ -85,6 +85,7 @@ pub struct ReflectionNetwork<'a> {
     crossings: &'a [usize],
     // the entry at which wires i < j cross, in row i at j
     times: [u16; 1024],
+    // stays beside what is held: opening cannot fail, and `checked` gives the system or the fault
     fault: Option<Fault>,
     ghost few: { count ≤ 32 },
     ghost legal: { (t : ℕ) → t < length crossings.now → upper crossings.now t < lower crossings.now t },

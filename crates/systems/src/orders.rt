@@ -12,6 +12,7 @@ pub struct Order {
     pub low: usize,
     pub mid: usize,
     pub high: usize,
+    // stays a flag: an enum of two cases would hold the same three marks twice
     pub same: bool,
 }
 

@@ -22,6 +22,7 @@ const LIMIT: usize = 128;
 #[derive(Clone, Copy)]
 pub struct Points<'a> {
     places: &'a [Place],
+    // stays beside what is held: opening cannot fail, and `checked` gives the system or the fault
     fault: Option<Fault>,
     ghost good: { ∥ Good places.now ∥₁ },
 }

@@ -22,6 +22,7 @@ use models::places::Place;
 pub struct Star<'a> {
     places: &'a [Place],
     centre: usize,
+    // stays beside what is held: opening cannot fail, and `checked` gives the system or the fault
     fault: Option<Fault>,
     ghost clear: { ∥ Clear places.now centre ∥₁ },
 }

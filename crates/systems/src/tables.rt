@@ -100,6 +100,7 @@ impl<'a> Turns<'a> {
         ensures fours { MatchResult result (λ _. AllLawful 4 (turn_table self.now.count self.now.list.now)) (λ fault. Judged self.now.count self.now.list.now (Some fault)) }
     {
         let n = self.count;
+        // stays nested loops: the marks themselves are what is tested and told, and nothing is indexed by them
         for a in 0..n {
             for b in a + 1..n {
                 for c in b + 1..n {
@@ -120,6 +121,7 @@ impl<'a> Turns<'a> {
         ensures judged { MatchResult result (λ _. Judged self.now.count self.now.list.now None) (λ fault. Judged self.now.count self.now.list.now (Some fault)) }
     {
         let n = self.count;
+        // stays nested loops, as those of `check_fours`
         for a in 0..n {
             for b in a + 1..n {
                 for c in b + 1..n {
@@ -151,6 +153,7 @@ fn check(n: usize, turns: &[Turn]) -> Result<(), Fault>
 pub struct TurnTable<'a> {
     count: usize,
     turns: &'a [Turn],
+    // stays beside what is held: opening cannot fail, and `checked` gives the system or the fault
     fault: Option<Fault>,
     ghost few: { count ≤ 24 },
     ghost long: { length turns.now ≡ threes_of count },
