@@ -5,11 +5,12 @@
 mod showing;
 
 use cc::CcSystem;
+use cc::checks::Checked;
 use cc::mirrors::Mirror;
 use cc::renamings::Renaming;
 use hull::histories::{Call, Question, compare};
 use models::places::Place;
-use showing::{show_answer, show_fault, show_turns};
+use showing::{show_answer, show_turns, show_verdict};
 use std::alloc::{AllocError, Global};
 use systems::points::Points;
 
@@ -51,12 +52,9 @@ fn show_systems(rt: &HostRuntime) -> anyhow::Result<()> {
     show_turns(rt, "mirror", &mirror)?;
     let renaming = Renaming::over(mirror, &[4, 3, 2]);
     show_turns(rt, "renaming", &renaming)?;
-    show_fault(rt, "points", Points::open(&ROW).fault())?;
-    show_fault(
-        rt,
-        "renaming",
-        Renaming::over(renaming.take_off(), &[0, 1, 0]).fault(),
-    )
+    show_verdict(rt, "points", Points::open(&ROW).accepted())?;
+    let misnamed = Renaming::over(renaming.take_off(), &[0, 1, 0]);
+    show_verdict(rt, "renaming", misnamed.accepted())
 }
 
 // A history on the section, and the same on its mirror under other names: mark i of it is mark 4 - i of the section.

@@ -6,6 +6,7 @@ use hull::answers::{Placed, Side};
 use hull::histories::{Answer, Reply};
 
 // A turn's letter.
+// stays a function: the letter is this program's, and `Turn` is another crate's
 fn letter(turn: Turn) -> &'static str {
     match turn {
         Turn::Left => "L",
@@ -30,11 +31,15 @@ pub fn show_turns<S: CcSystem>(rt: &HostRuntime, name: &str, system: &S) -> anyh
     Ok(())
 }
 
-// Why a list was refused.
-pub fn show_fault(rt: &HostRuntime, name: &str, fault: Option<Fault>) -> anyhow::Result<()> {
-    match fault {
-        None => println!(rt; "{name}\taccepted")?,
-        Some(fault) => {
+// Whether a list was accepted, or why it was refused.
+pub fn show_verdict(
+    rt: &HostRuntime,
+    name: &str,
+    verdict: Result<(), Fault>,
+) -> anyhow::Result<()> {
+    match verdict {
+        Ok(()) => println!(rt; "{name}\taccepted")?,
+        Err(fault) => {
             let number = fault.number();
             let places = fault.places();
             println!(rt; "{name}\tno\t{number}\t{places:?}")?
