@@ -67,6 +67,8 @@ impl Offset {
 }
 
 // Twice the signed area of the triangle p q r.
+// stays three clauses: the places come out of a list of which one fact says that all are near, and a type for a near place would be
+// made anew at each read
 pub(crate) fn determinant(p: Place, q: Place, r: Place) -> i64
     requires p { Near p }
     requires q { Near q }
