@@ -70,3 +70,29 @@ pub fn open<'a>(room: &'a mut Room, text: &[u8]) -> Result<Opened<'a>, Fault>
         }
     }
 }
+
+#[cfg(test)]
+mod tests {
+    use super::*;
+
+    #[test]
+    fn a_sheet_is_opened(rt: HostRuntime) {
+        let mut room = Room::new();
+        let turn = open(&mut room, b"P\t3\nm\t0\t0\nm\t1\t0\nm\t0\t1\n").map(|system| (
+            system.kind(),
+            system.turn(0, 1, 2),
+        ));
+        assert_eq!(rt; turn, Ok((Kind::Points, Some(Turn::Left))));
+        let count = open(&mut room, b"T\t2\n").map(|system| system.count());
+        assert_eq!(rt; count, Ok(2));
+    }
+
+    #[test]
+    fn a_list_is_refused(rt: HostRuntime) {
+        let mut room = Room::new();
+        let count = open(&mut room, b"P\t2\nm\t5\t5\nm\t5\t5\n").map(|system| system.count());
+        assert_eq!(rt; count, Err(Fault::Twin(0, 1)));
+        let count = open(&mut room, b"W\t3\nc\t0\n").map(|system| system.count());
+        assert_eq!(rt; count, Err(Fault::Miscounted(3)));
+    }
+}
