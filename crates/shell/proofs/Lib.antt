@@ -1,7 +1,6 @@
 pub mod Numbers
-pub mod Growing
 pub mod Answering
 pub mod Layering
 pub mod Words
-pub mod Opening
 pub mod Talking
+pub mod Opening

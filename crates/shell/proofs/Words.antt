@@ -1,17 +1,19 @@
 -- The words that name layers. Assumes nothing.
 use Rattle.std.proofs.Common.{◌≡◌, ℕ, ◌<◌, ◌≢◌, List, [], ◌∷◌, ◌++◌, Some, None, codes, decimal, Option, sym, refl, ap, ◌∙◌, subst, append_assoc, append-nil, arith}
+use Rattle.std.proofs.lemmas.Fmt.{digits_decimal}
 use Rattle.std.proofs.lemmas.Str.Parse.{digit_at}
 use Rattle.laws.specs.Layers.{Layer, mirror, renaming}
 use Rattle.sheet.specs.Fields.{Lacks, Says}
 use Rattle.sheet.specs.Cuts.{cut_unique, lacks_not, not_nil}
 use Rattle.shell.specs.Commands.{Wide}
 use Rattle.shell.specs.Layered.{Narrow, SomeNames, Wides, joined, layer_word}
-use Rattle.shell.proofs.Numbers.{lacks_by, wide_digits}
+use Rattle.sheet.specs.FieldsLemmas.{own}
+use Rattle.shell.proofs.Numbers.{lacks_by}
 
 -- digits hold no comma
 pub wide_lacks : (b n : ℕ) → b < 48 → Wide n → Lacks b (decimal n)
 wide_lacks b n low wide i h e =
-    let digit = digit_at (decimal n) i (wide_digits n wide (decimal n) refl) h in
+    let digit = digit_at (decimal n) i (digits_decimal own n (omega arith)) h in
     omega (arith, digit.0)
 
 -- names that stand before those of the rest

@@ -3,7 +3,7 @@ use Rattle.std.specs.Prelude.{ℕ, List, Some, None}
 use Rattle.cc.specs.declared.faults.Fault.{Fault}
 use Rattle.sheet.specs.Sheets.{Declines, Holds, Lists, Value}
 use Rattle.sheet.specs.declared.Kind.{Kind}
-use Rattle.reports.specs.Reports.{Judged, system}
+use Rattle.opening.specs.Opening.{Judged, system}
 use Rattle.shell.specs.Layered.{Talk, refusal_line}
 
 -- for a sheet's list: its refusal as a system, or what is printed over the system that it means

@@ -7,7 +7,8 @@ use Rattle.hull.specs.Histories.{Called}
 use Rattle.hull.specs.Words.{Census as Counted}
 use Rattle.sheet.specs.Fields.{Lacks}
 use Rattle.shell.specs.Commands.{Fits, Wide, name, written}
-use Rattle.shell.specs.Texts.{shown, tabbed}
+use Rattle.cc.specs.Texts.{tabbed}
+use Rattle.shell.specs.Texts.{shown}
 use Rattle.shell.specs.declared.commands.Verb.{Verb}
 use Rattle.shell.specs.declared.commands.Verb.TheVariants.{Add, Drop, Place, Neighbours, Outline, Rounds}
 use Rattle.shell.specs.declared.commands.Command.{Command}

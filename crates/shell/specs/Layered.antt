@@ -7,7 +7,7 @@ use Rattle.cc.specs.Names.{Judged}
 use Rattle.cc.specs.declared.faults.Fault.{Fault}
 use Rattle.sheet.specs.Fields.{Lacks}
 use Rattle.shell.specs.Commands.{Wide}
-use Rattle.shell.specs.Texts.{refused, tabbed}
+use Rattle.cc.specs.Texts.{refused, tabbed}
 use Rattle.shell.specs.Dialogues.{Dialogue}
 use Rattle.shell.specs.declared.layers.Layer.{Layer}
 use Rattle.shell.specs.declared.layers.Layer.TheVariants.{Mirror, Renaming}

@@ -1,19 +1,9 @@
 -- What the shell prints: words and numbers, parted by tabs.
-use Rattle.std.specs.Prelude.{ℕ, List, [], ◌∷◌, ◌++◌, take, codes, decimal}
-use Rattle.cc.specs.declared.faults.Fault.{Fault}
-use Rattle.cc.specs.Refusals.{number, places}
+use Rattle.std.specs.Prelude.{ℕ, List, [], ◌∷◌, ◌++◌, take, codes}
+use Rattle.cc.specs.Texts.{refused, tabbed}
 use Rattle.runs.specs.Calls.{Side, edge, inside, Answer, added, dropped, at, within, beside, wrote, declined}
 use Rattle.shell.specs.declared.commands.Verb.{Verb}
 use Rattle.shell.specs.declared.commands.Verb.TheVariants.{Add, Drop, Place, Neighbours, Outline, Rounds}
-
--- numbers, each after a tab
-abbrev pub tabbed : List ℕ → List ℕ
-tabbed [] = []
-tabbed (n ∷ ns) = 9 ∷ (decimal n ++ tabbed ns)
-
--- a refusal: no, its number, and the places that it uses
-abbrev pub refused : Fault → List ℕ
-refused f = codes "no" ++ tabbed (number f ∷ places f)
 
 abbrev pub side_word : Side → List ℕ
 side_word edge = 9 ∷ codes "edge"

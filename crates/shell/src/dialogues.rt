@@ -1,16 +1,16 @@
 //! A script, and what is printed for it.
 
-ghost use Rattle.std.specs.Prelude.{◌≡◌, ℕ, false, [], ◌∷◌, ◌++◌, IfOk, string_bytes, MatchOption, OnOk};
+ghost use Rattle.std.specs.Prelude.{◌≡◌, false, [], IfOk, string_bytes, MatchOption, OnOk};
 ghost use Rattle.hull.specs.Records.{held};
-ghost use Rattle.shell.specs.Texts.{tabbed};
 ghost use Rattle.shell.specs.Dialogues.{Begins, CalledLine, Dialogue, Exchanged};
 
 use super::answers::answer_call;
-use super::commands::{Command, Verb, cut, parse};
-use super::texts::put;
+use super::commands::{Command, Verb, parse};
 use cc::CcSystem;
 use hull::hulls::DynamicHull;
+use sheet::numbers::cut;
 use std::alloc::{AllocError, Global};
+use std::fmt::Write;
 
 // The first line, without the byte 10 that ends it, and what follows; none where nothing is left.
 fn next_line(text: &[u8]) -> Option<(&[u8], &[u8])>
@@ -21,26 +21,12 @@ fn next_line(text: &[u8]) -> Option<(&[u8], &[u8])>
     }
     match cut(text, b'\n') {
         Some(parts) => Some(parts),
-        None => Some((text, &text[text.len()..])),
+        None => Some((text, &[])),
     }
-}
-
-// Adds a line of a word and numbers.
-pub(crate) fn put_line(
-    heap: Global,
-    out: &mut String,
-    word: &str,
-    numbers: &[usize],
-) -> Result<(), AllocError>
-    ensures put { OnOk result (string_bytes out.new ≡ string_bytes out.old ++ ((word.now ++ tabbed numbers.now) ++ 10 ∷ [])) }
-{
-    put(heap, out, word, numbers)?;
-    out.push_str("\n")
 }
 
 // Makes a call, and adds the line that answers it.
 fn call_line<S: CcSystem>(
-    heap: Global,
     out: &mut String,
     hull: &mut DynamicHull<S>,
     count: usize,
@@ -51,14 +37,14 @@ fn call_line<S: CcSystem>(
     ensures called { OnOk result (CalledLine (S.CcSystem.meaning hull.old.system) (held hull.old.state.records) (held hull.new.state.records) verb number (string_bytes out.old) (string_bytes out.new)) }
     ensures system { hull.new.system ≡ hull.old.system }
 {
-    put(heap, out, verb.word(), &[number])?;
-    answer_call(heap, out, hull, count, verb, number)?;
+    let word = verb.word();
+    write!(out, "{word}\t{number}")?;
+    answer_call(out, hull, count, verb, number)?;
     out.push_str("\n")
 }
 
 // Does what a line asks for, and adds what is printed for it.
 fn exchange<S: CcSystem>(
-    heap: Global,
     out: &mut String,
     hull: &mut DynamicHull<S>,
     count: usize,
@@ -69,15 +55,15 @@ fn exchange<S: CcSystem>(
     ensures exchanged { OnOk result (Exchanged (S.CcSystem.meaning hull.old.system) (held hull.old.state.records) (held hull.new.state.records) number line.now (string_bytes out.old) (string_bytes out.new)) }
     ensures system { hull.new.system ≡ hull.old.system }
 {
-    match parse(line) {
-        None => put_line(heap, out, "?", &[number]),
-        Some(command) => match command {
-            Command::Call(verb, k) => call_line(heap, out, hull, count, verb, k),
-            Command::Census => {
-                let (low, high, size) = hull.census();
-                put_line(heap, out, "census", &[low as usize, high as usize, size])
-            }
-        },
+    let Some(command) = parse(line) else {
+        return writeln!(out, "?\t{number}");
+    };
+    match command {
+        Command::Call(verb, k) => call_line(out, hull, count, verb, k),
+        Command::Census => {
+            let (low, high, size) = hull.census();
+            writeln!(out, "census\t{low}\t{high}\t{size}")
+        }
     }
 }
 
@@ -95,7 +81,7 @@ pub fn converse<S: CcSystem + Drop>(
     let mut rest = script;
     let mut number = 1;
     while let Some((line, after)) = next_line(rest) {
-        exchange(heap, &mut out, &mut hull, count, line, number)?;
+        exchange(&mut out, &mut hull, count, line, number)?;
         rest = after;
         number += 1;
     }

@@ -4,14 +4,16 @@ ghost use Rattle.std.specs.Prelude.{◌≡◌, [], ◌∷◌, IfOk, Some, None, 
 ghost use Rattle.sheet.specs.Fields.{Says};
 ghost use Rattle.shell.specs.Layered.{Layered, Narrow, SomeNames, Talk, joined, layer_as, layer_of, layer_word, refusal_line, unknown_line};
 
-use super::commands::{cut, is, number};
-use super::dialogues::{converse, put_line};
-use super::texts::put_refusal;
+use super::commands::is;
+use super::dialogues::converse;
 use cc::CcSystem;
+use cc::checks::Checked;
 use cc::faults::Fault;
 use cc::mirrors::Mirror;
 use cc::renamings::Renaming;
+use sheet::numbers::{cut, number};
 use std::alloc::{AllocError, Global};
+use std::fmt::Write;
 
 // A layer over a system.
 #[derive(Drop)]
@@ -25,10 +27,7 @@ pub enum Layer {
 pub(crate) fn refusal(heap: Global, fault: Fault) -> Result<String, AllocError>
     ensures line { IfOk result (λ out. string_bytes out ≡ refusal_line fault) }
 {
-    let mut out = String::new(heap);
-    put_refusal(heap, &mut out, fault)?;
-    out.push_str("\n")?;
-    Ok(out)
+    format!(in heap; "{fault}\n")
 }
 
 // Puts a layer over the system, and makes the calls of the script.
@@ -42,13 +41,10 @@ fn with_layer<S: CcSystem + Drop>(
 {
     match layer {
         Layer::Mirror => converse(heap, Mirror::over(system), script),
-        Layer::Renaming(names) => {
-            let renaming = Renaming::over(system, names);
-            match renaming.fault() {
-                Some(fault) => refusal(heap, fault),
-                None => converse(heap, renaming, script),
-            }
-        }
+        Layer::Renaming(names) => match Renaming::over(system, names).checked() {
+            Ok(renaming) => converse(heap, renaming, script),
+            Err(fault) => refusal(heap, fault),
+        },
     }
 }
 
@@ -64,13 +60,10 @@ fn with_layers<S: CcSystem + Drop>(
 {
     match first {
         Layer::Mirror => with_layer(heap, Mirror::over(system), second, script),
-        Layer::Renaming(names) => {
-            let renaming = Renaming::over(system, names);
-            match renaming.fault() {
-                Some(fault) => refusal(heap, fault),
-                None => with_layer(heap, renaming, second, script),
-            }
-        }
+        Layer::Renaming(names) => match Renaming::over(system, names).checked() {
+            Ok(renaming) => with_layer(heap, renaming, second, script),
+            Err(fault) => refusal(heap, fault),
+        },
     }
 }
 
@@ -81,13 +74,13 @@ fn names(heap: Global, text: &[u8]) -> Result<Option<Vec<usize>>, AllocError>
     let mut names = Vec::new(heap);
     let mut rest = text;
     while let Some((entry, after)) = cut(rest, b',') {
-        let Some(name) = number(entry) else {
+        let Some(name) = number(entry, usize::MAX) else {
             return Ok(None);
         };
         names.push(name)?;
         rest = after;
     }
-    let Some(name) = number(rest) else {
+    let Some(name) = number(rest, usize::MAX) else {
         return Ok(None);
     };
     names.push(name)?;
@@ -120,9 +113,7 @@ fn layer_of(heap: Global, word: &[u8]) -> Result<Option<Layer>, AllocError>
 fn no_layer(heap: Global, word: usize) -> Result<String, AllocError>
     ensures line { IfOk result (λ out. string_bytes out ≡ unknown_line word) }
 {
-    let mut out = String::new(heap);
-    put_line(heap, &mut out, "?\tlayer", &[word])?;
-    Ok(out)
+    format!(in heap; "?\tlayer\t{word}\n")
 }
 
 // Puts the layers that the words name over the system, and makes the calls of the script.

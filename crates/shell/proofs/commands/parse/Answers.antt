@@ -1,13 +1,14 @@
+use Rattle.std.proofs.Common.{arith}
 use Rattle.shell.proofs.Numbers.{no_space, no_parts}
 use Rattle.shell.proofs.commands.parse.Goals as goal
 
 pub returns-in_err-word : goal.returns-in_err-word
-returns-in_err-word c = rw c.from_residual.ensures (record { command = no_space _ c.if-is.ensures c.in_err-word.ensures })
+returns-in_err-word c = rw c.from_residual.ensures (record { command = no_space _ c.if-is.ensures c.in_err-word.ensures.parts })
 
 pub returns-in_err-verb : goal.returns-in_err-verb
 returns-in_err-verb c =
-    rw c.from_residual-in_err-verb.ensures (record { command = no_parts _ _ _ c.if-is.ensures c.in_ok-word.ensures (λ v n wide w d. c.in_err-verb.ensures v w) })
+    rw c.from_residual-in_err-verb.ensures (record { command = no_parts _ _ _ c.if-is.ensures c.in_ok-word.ensures.parts (λ v n wide w d. c.in_err-verb.ensures v w) })
 
 pub returns-in_err-number : goal.returns-in_err-number
 returns-in_err-number c =
-    rw c.from_residual-in_err-number.ensures (record { command = no_parts _ _ _ c.if-is.ensures c.in_ok-word.ensures (λ v n wide w d. c.in_err-number.ensures n wide d) })
+    rw c.from_residual-in_err-number.ensures (record { command = no_parts _ _ _ c.if-is.ensures c.in_ok-word.ensures.parts (λ v n wide w d. c.in_err-number.ensures.number n (omega (arith, wide)) d) })

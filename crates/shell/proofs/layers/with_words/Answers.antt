@@ -17,7 +17,7 @@ pub returns-in-None : goal.returns-in-None
 returns-in-None g c =
     record {
       talk = made_so c.no_layer.result
-          (λ out e. by_unknown _ _ _ (string_bytes out) c.in_ok-layer.field-0 (λ z. eqb-false _ 0 (sym c.is_empty.ensures ∙ c.if-is_empty.false) (ap length z)) c.in_default.ensures c.in_ok-layer.ensures.layer c.in-None.is e)
+          (λ out e. by_unknown _ _ _ (string_bytes out) c.in_ok-layer.field-0 (λ z. eqb-false _ 0 (sym c.is_empty.ensures ∙ c.if-is_empty.false) (ap length z)) c.in_default.ensures.parts c.in_ok-layer.ensures.layer c.in-None.is e)
           c.no_layer.ensures.line;
     }
 
@@ -25,7 +25,7 @@ pub returns-in_default-2 : goal.returns-in_default-2
 returns-in_default-2 g c =
     record {
       talk = made_so c.no_layer-in_default-2.result
-          (λ out e. by_unknown_first _ _ _ (string_bytes out) _ _ c.in-Some.ensures c.in_ok-first.field-0 c.in_ok-first.ensures.layer c.in_default-2.is e)
+          (λ out e. by_unknown_first _ _ _ (string_bytes out) _ _ c.in-Some.ensures.parts c.in_ok-first.field-0 c.in_ok-first.ensures.layer c.in_default-2.is e)
           c.no_layer-in_default-2.ensures.line;
     }
 
@@ -33,7 +33,7 @@ pub returns-in-Some-4 : goal.returns-in-Some-4
 returns-in-Some-4 g c =
     record {
       talk = made_so c.with_layers.result
-          (λ out h. by_two _ _ _ (string_bytes out) _ _ c.in-Some.ensures c.in_ok-first.field-0 c.in_ok-first.ensures.layer c.in-Some-3.first c.in-Some-3.is c.in_ok-second.field-0 c.in_ok-second.ensures.layer c.in-Some-4.second c.in-Some-4.is h)
+          (λ out h. by_two _ _ _ (string_bytes out) _ _ c.in-Some.ensures.parts c.in_ok-first.field-0 c.in_ok-first.ensures.layer c.in-Some-3.first c.in-Some-3.is c.in_ok-second.field-0 c.in_ok-second.ensures.layer c.in-Some-4.second c.in-Some-4.is h)
           c.with_layers.ensures.layered;
     }
 
@@ -41,6 +41,6 @@ pub returns-in-None-2 : goal.returns-in-None-2
 returns-in-None-2 g c =
     record {
       talk = made_so c.no_layer-in-None-2.result
-          (λ out e. by_unknown_second _ _ _ (string_bytes out) _ _ c.in-Some.ensures c.in_ok-first.field-0 c.in_ok-first.ensures.layer c.in-Some-3.first c.in-Some-3.is c.in_ok-second.field-0 c.in_ok-second.ensures.layer c.in-None-2.is e)
+          (λ out e. by_unknown_second _ _ _ (string_bytes out) _ _ c.in-Some.ensures.parts c.in_ok-first.field-0 c.in_ok-first.ensures.layer c.in-Some-3.first c.in-Some-3.is c.in_ok-second.field-0 c.in_ok-second.ensures.layer c.in-None-2.is e)
           c.no_layer-in-None-2.ensures.line;
     }

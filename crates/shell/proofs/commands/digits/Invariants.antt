@@ -1,5 +1,0 @@
-use Rattle.sheet.specs.FieldsLemmas.{Sofar}
-use Rattle.shell.proofs.commands.digits.Given as goal
-
-abbrev pub invariant-loop-b : goal.invariant-loop-b
-invariant-loop-b l = Sofar l.bytes l.b-index l.n
