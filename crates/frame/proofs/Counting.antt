@@ -1,12 +1,13 @@
 -- What calls are worth, one after another. Assumes nothing.
-use Rattle.std.proofs.Common.{◌≡◌, ℕ, suc, ◌+◌, ◌-◌, ◌<◌, ◌≤◌, Bool, false, ◌≢◌, List, [], ◌∷◌, length, get_or, take, drop, sum, sym, ap, ◌∙◌, subst, add-zero, add_assoc, mod-eq_of_lt, zero-add, arith, length-drop, length-take}
+use Rattle.std.proofs.Common.{◌≡◌, ℕ, min, replicate, suc, ◌+◌, ◌-◌, ◌<◌, ◌≤◌, Bool, false, ◌≢◌, List, [], ◌∷◌, length, get_or, take, drop, sum, sym, ap, ◌∙◌, subst, add-zero, add_assoc, mod-eq_of_lt, zero-add, arith, length-drop, length-take}
 use native.Mathlib.Nat.{mod-add-mod, add-mod-mod}
-use Rattle.std.proofs.lemmas.List.{take_all}
+use Rattle.std.proofs.lemmas.List.{take_all, take-replicate}
 use Rattle.std.proofs.lemmas.List.Sums.{sum_by_more}
 use Rattle.laws.specs.Systems.{Meaning}
 use Rattle.runs.specs.Calls.{Answer, Answers}
+use Rattle.runs.specs.Calls.{Call as TheCall}
 use Rattle.hull.specs.Histories.{Moved}
-use Rattle.shell.specs.Dialogues.{call_of}
+use Rattle.shell.specs.Dialogues.{call_of, handed}
 use Rattle.shell.specs.declared.commands.Verb.{Verb}
 use Rattle.frame.specs.Tallies.{Tallied, Total, Valued, call, end, letter, no_call, odd, total, worth, wrapped}
 
@@ -53,3 +54,7 @@ all_calls m calls s n rest few fits go = subst (Total m calls) (ap wrapped (add-
     none [] h = end
     none (b ∷ []) h = odd
     none (b ∷ c ∷ l) h = absurd (omega arith)
+
+-- the list that is handed over
+pub with_room : (m : Meaning) (s : ℕ → Bool) (asking : List ℕ → TheCall) (a : Answer) (k n : ℕ) → n ≡ min k 128 → Answers m s (asking (take {A = ℕ} n (replicate 128 0))) a → Answers m s (asking (handed k)) a
+with_room m s asking a k n e h = subst (λ l. Answers m s (asking l) a) (take-replicate n 128 0 (omega (arith, e)) ∙ ap (λ i. replicate i 0) e) h

@@ -1,5 +1,5 @@
 -- From what a text is opened as to what the calls are worth for it. Assumes nothing.
-use Rattle.std.proofs.Common.{◌≡◌, ℕ, List}
+use Rattle.std.proofs.Common.{ℕ, List}
 use Rattle.cc.specs.declared.faults.Fault.{Fault}
 use Rattle.opening.specs.declared.opened.Opened.{Opened}
 use Rattle.opening.specs.Opening.{Opens, Refused, meaning_of, unopened, unread}

@@ -6,8 +6,7 @@ use Rattle.hull.specs.Replies.{added_answer, dropped_answer, placed_answer, neig
 use Rattle.hull.specs.Histories.{asks}
 use Rattle.hull.proofs.Recording.{added_moved, dropped_moved}
 use Rattle.shell.specs.declared.commands.Verb.TheVariants.{Add, Drop, Place, Neighbours, Outline, Rounds}
-use Rattle.shell.proofs.Answering.{with_room}
-use Rattle.frame.proofs.Counting.{valued_by}
+use Rattle.frame.proofs.Counting.{valued_by, with_room}
 use Rattle.frame.proofs.answers.of_call.Goals as goal
 
 pub returns-in-Add : goal.returns-in-Add
