@@ -41,6 +41,13 @@ impl<S: CcSystem> DynamicHull<S> {
         self.system
     }
 
+    // How many marks its system has, in or out.
+    pub fn count(&self) -> usize
+        ensures count { result ≡ (S.CcSystem.meaning self.now.system).count }
+    {
+        self.system.count()
+    }
+
     // Writes the outline at the front of the list, from its lowest mark on; its length.
     pub fn outline(&self, list: &mut [usize]) -> Result<usize, Fault>
         ensures answer { Answers (S.CcSystem.meaning self.now.system) (held self.now.state.records) (outline list.old) (list_answer result list.new) }
@@ -52,7 +59,7 @@ impl<S: CcSystem> DynamicHull<S> {
     pub fn rounds(&self, list: &mut [usize]) -> Result<usize, Fault>
         ensures answer { Answers (S.CcSystem.meaning self.now.system) (held self.now.state.records) (rounds list.old) (list_answer result list.new) }
     {
-        let count = self.system.count();
+        let count = self.count();
         if list.len() < count {
             return Err(Fault::Tight(count));
         }
