@@ -1,5 +1,6 @@
 -- The words of the calls, and the lines that they stand in.
-use Rattle.std.proofs.Common.{◌≡◌, ℕ, not, T, eqb, ◌≢◌, List, [], ◌∷◌, ◌++◌, codes, decimal, sym, ◌∙◌, subst, arith, T_not}
+use Rattle.std.proofs.Common.{◌≡◌, ℕ, not, T, eqb, ◌≢◌, List, [], ◌∷◌, ◌++◌, length, Some, None, Option, MatchOption, ◌<◌, codes, decimal, sym, ◌∙◌, subst, arith, T_not}
+use Rattle.std.specs.List.{AllWithin, HoldsAt}
 use lib.Dec.{eqb_refl}
 use Rattle.laws.specs.Layers.{fresh}
 use Rattle.laws.proofs.Names.{both}
@@ -38,11 +39,20 @@ no_parts bs w d none cut parts (Call v n) wide is =
     parts v n wide e.0 e.1
 no_parts bs w d none cut parts Census u is = none is
 
--- no word, no call
-pub no_word : (w : List ℕ) → w ≢ codes "add" → w ≢ codes "drop" → w ≢ codes "place" → w ≢ codes "neighbours" → w ≢ codes "outline" → w ≢ codes "rounds" → (v : Verb) → w ≡ name v → ⊥
-no_word w a d p n o r Add = a
-no_word w a d p n o r Drop = d
-no_word w a d p n o r Place = p
-no_word w a d p n o r Neighbours = n
-no_word w a d p n o r Outline = o
-no_word w a d p n o r Rounds = r
+-- all the calls, in the order of their list
+abbrev pub verbs : List Verb
+verbs = Add ∷ Drop ∷ Place ∷ Neighbours ∷ Outline ∷ Rounds ∷ []
+
+-- the first of them that has the word, or none of them has it
+pub one_word : (w : List ℕ) (r : Option Verb) → (let No : Verb → Type 0 = λ v. w ≢ name v in MatchOption r (AllWithin No verbs 0 (length verbs)) (λ v. (w ≡ name v) × (i : ℕ) × (i < length verbs) × HoldsAt (λ u. u ≡ v) verbs i × AllWithin No verbs 0 i))
+    → MatchOption r ((v : Verb) → w ≢ name v) (λ v. w ≡ name v)
+one_word w (Some v) found = found.0
+one_word w None none = each
+  where
+    each : (v : Verb) → w ≢ name v
+    each Add = none 0 Add (omega arith) (omega arith)
+    each Drop = none 1 Add (omega arith) (omega arith)
+    each Place = none 2 Add (omega arith) (omega arith)
+    each Neighbours = none 3 Add (omega arith) (omega arith)
+    each Outline = none 4 Add (omega arith) (omega arith)
+    each Rounds = none 5 Add (omega arith) (omega arith)

@@ -85,15 +85,13 @@ fn put_outline<S: CcSystem>(
 fn put_rounds<S: CcSystem>(
     out: &mut String,
     hull: &DynamicHull<S>,
-    count: usize,
     list: &mut [usize],
 ) -> Result<(), AllocError>
-    requires count { count ≡ (S.CcSystem.meaning hull.now.system).count }
     ensures put { OnOk result (((a : Answer) × Answers (S.CcSystem.meaning hull.now.system) (held hull.now.state.records) (rounds list.old) a × (string_bytes out.new ≡ string_bytes out.old ++ shown (S.CcSystem.meaning hull.now.system).count Rounds a))) }
 {
     match hull.rounds(list) {
         Ok(number) => {
-            let entries = Tabbed(&list[..count]);
+            let entries = Tabbed(&list[..hull.count()]);
             write!(out, "\t{number}{entries}")
         }
         Err(fault) => write!(out, "\t{fault}"),
@@ -104,11 +102,9 @@ fn put_rounds<S: CcSystem>(
 pub(crate) fn answer_call<S: CcSystem>(
     out: &mut String,
     hull: &mut DynamicHull<S>,
-    count: usize,
     verb: Verb,
     number: usize,
 ) -> Result<(), AllocError>
-    requires count { count ≡ (S.CcSystem.meaning hull.old.system).count }
     ensures answered { OnOk result (Answered (S.CcSystem.meaning hull.old.system) (held hull.old.state.records) (held hull.new.state.records) verb number (string_bytes out.old) (string_bytes out.new)) }
     ensures system { hull.new.system ≡ hull.old.system }
 {
@@ -120,6 +116,6 @@ pub(crate) fn answer_call<S: CcSystem>(
         Verb::Place => put_placed(out, hull.place(number)),
         Verb::Neighbours => put_neighbours(out, hull.neighbours(number)),
         Verb::Outline => put_outline(out, hull, &mut list[..room]),
-        Verb::Rounds => put_rounds(out, hull, count, &mut list[..room]),
+        Verb::Rounds => put_rounds(out, hull, &mut list[..room]),
     }
 }

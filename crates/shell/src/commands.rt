@@ -1,10 +1,11 @@
 //! The calls that a line can ask for.
 
-ghost use Rattle.std.specs.Prelude.{◌≡◌, MatchBool, MatchOption, ◌≢◌};
+ghost use Rattle.std.specs.Prelude.{◌≡◌, Some, MatchBool, MatchOption, ◌≢◌};
 ghost use Rattle.sheet.specs.Fields.{Says};
 ghost use Rattle.shell.specs.Commands.{Fits, name, written};
 
 use sheet::numbers::{cut, number};
+use std::fmt;
 
 // A call that goes with a number: a mark, or the length of the list that is handed over.
 #[derive(Clone, Copy, PartialEq, Eq, Debug)]
@@ -16,6 +17,16 @@ pub enum Verb {
     Outline,
     Rounds,
 }
+
+// All the calls.
+const VERBS: [Verb; 6] = [
+    Verb::Add,
+    Verb::Drop,
+    Verb::Place,
+    Verb::Neighbours,
+    Verb::Outline,
+    Verb::Rounds,
+];
 
 // What a line asks for.
 #[derive(Clone, Copy, PartialEq, Eq, Debug)]
@@ -40,6 +51,15 @@ impl Verb {
     }
 }
 
+// Its word.
+impl fmt::Display for Verb {
+    ghost output = { λ verb. Some (name verb) };
+
+    fn fmt<W: fmt::Write>(&self, f: &mut fmt::Formatter<W>) -> fmt::Result {
+        f.write_str(self.word())
+    }
+}
+
 // Whether the bytes are those of the word.
 pub(crate) fn is(bytes: &[u8], word: &str) -> bool
     ensures { MatchBool result (bytes.now ≡ word.now) (bytes.now ≢ word.now) }
@@ -51,21 +71,7 @@ pub(crate) fn is(bytes: &[u8], word: &str) -> bool
 fn verb_of(word: &[u8]) -> Option<Verb>
     ensures { MatchOption result ((v : Verb) → word.now ≢ name v) (λ v. word.now ≡ name v) }
 {
-    if is(word, "add") {
-        Some(Verb::Add)
-    } else if is(word, "drop") {
-        Some(Verb::Drop)
-    } else if is(word, "place") {
-        Some(Verb::Place)
-    } else if is(word, "neighbours") {
-        Some(Verb::Neighbours)
-    } else if is(word, "outline") {
-        Some(Verb::Outline)
-    } else if is(word, "rounds") {
-        Some(Verb::Rounds)
-    } else {
-        None
-    }
+    VERBS.iter().copied().find(|verb| is(word, verb.word()))
 }
 
 // What a line asks for; none where it is no call.

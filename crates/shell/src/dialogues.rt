@@ -29,17 +29,14 @@ fn next_line(text: &[u8]) -> Option<(&[u8], &[u8])>
 fn call_line<S: CcSystem>(
     out: &mut String,
     hull: &mut DynamicHull<S>,
-    count: usize,
     verb: Verb,
     number: usize,
 ) -> Result<(), AllocError>
-    requires count { count ≡ (S.CcSystem.meaning hull.old.system).count }
     ensures called { OnOk result (CalledLine (S.CcSystem.meaning hull.old.system) (held hull.old.state.records) (held hull.new.state.records) verb number (string_bytes out.old) (string_bytes out.new)) }
     ensures system { hull.new.system ≡ hull.old.system }
 {
-    let word = verb.word();
-    write!(out, "{word}\t{number}")?;
-    answer_call(out, hull, count, verb, number)?;
+    write!(out, "{verb}\t{number}")?;
+    answer_call(out, hull, verb, number)?;
     out.push_str("\n")
 }
 
@@ -47,11 +44,9 @@ fn call_line<S: CcSystem>(
 fn exchange<S: CcSystem>(
     out: &mut String,
     hull: &mut DynamicHull<S>,
-    count: usize,
     line: &[u8],
     number: usize,
 ) -> Result<(), AllocError>
-    requires count { count ≡ (S.CcSystem.meaning hull.old.system).count }
     ensures exchanged { OnOk result (Exchanged (S.CcSystem.meaning hull.old.system) (held hull.old.state.records) (held hull.new.state.records) number line.now (string_bytes out.old) (string_bytes out.new)) }
     ensures system { hull.new.system ≡ hull.old.system }
 {
@@ -59,7 +54,7 @@ fn exchange<S: CcSystem>(
         return writeln!(out, "?\t{number}");
     };
     match command {
-        Command::Call(verb, k) => call_line(out, hull, count, verb, k),
+        Command::Call(verb, k) => call_line(out, hull, verb, k),
         Command::Census => {
             let (low, high, size) = hull.census();
             writeln!(out, "census\t{low}\t{high}\t{size}")
@@ -75,13 +70,12 @@ pub fn converse<S: CcSystem + Drop>(
 ) -> Result<String, AllocError>
     ensures dialogue { IfOk result (λ out. Dialogue (S.CcSystem.meaning system) (λ _. false) 1 script.now (string_bytes out)) }
 {
-    let count = system.count();
     let mut hull = DynamicHull::over(system);
     let mut out = String::new(heap);
     let mut rest = script;
     let mut number = 1;
     while let Some((line, after)) = next_line(rest) {
-        exchange(&mut out, &mut hull, count, line, number)?;
+        exchange(&mut out, &mut hull, line, number)?;
         rest = after;
         number += 1;
     }
