@@ -59,6 +59,15 @@ refusal_line f = refused f ++ 10 ∷ []
 abbrev pub unknown_line : ℕ → List ℕ
 unknown_line n = ((63 ∷ 9 ∷ codes "layer") ++ tabbed (n ∷ [])) ++ 10 ∷ []
 
+-- m' is what the layer makes of the system m below it
+pub data Laid (m : Meaning) : TheLayer → Meaning → Type 0 where
+  mirrors : Laid m mirror (mirrored m)
+  renames : {m' : Meaning} {xs : List ℕ} → Judged m.count xs None → Same m' (renamed m xs) → Laid m (renaming xs) m'
+
+-- the layer is refused over the system m
+pub data Refused (m : Meaning) : TheLayer → Fault → Type 0 where
+  misnames : {xs : List ℕ} {f : Fault} → Judged m.count xs (Some f) → Refused m (renaming xs) f
+
 -- what is printed for the script with the layers over the system, the first of them directly over it; a refused renaming prints its refusal
 pub data Layered (script : List ℕ) : Meaning → List TheLayer → List ℕ → Type 0 where
   bare : {m : Meaning} {out : List ℕ} → Dialogue m (λ _. false) 1 script out → Layered script m [] out

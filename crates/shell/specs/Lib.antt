@@ -3,3 +3,4 @@ pub mod Texts
 pub mod Dialogues
 pub mod Layered
 pub mod Consoles
+pub mod Overs

@@ -6,11 +6,9 @@ ghost use Rattle.shell.specs.Layered.{Layered, Narrow, SomeNames, Talk, joined, 
 
 use super::commands::is;
 use super::dialogues::converse;
+use super::over::put_on;
 use cc::CcSystem;
-use cc::checks::Checked;
 use cc::faults::Fault;
-use cc::mirrors::Mirror;
-use cc::renamings::Renaming;
 use sheet::numbers::{cut, number};
 use std::alloc::{AllocError, Global};
 use std::fmt::Write;
@@ -39,31 +37,9 @@ fn with_layer<S: CcSystem + Drop>(
 ) -> Result<String, AllocError>
     ensures layered { IfOk result (λ out. Layered script.now (S.CcSystem.meaning system) (layer_of layer.now ∷ []) (string_bytes out)) }
 {
-    match layer {
-        Layer::Mirror => converse(heap, Mirror::over(system), script),
-        Layer::Renaming(names) => match Renaming::over(system, names).checked() {
-            Ok(renaming) => converse(heap, renaming, script),
-            Err(fault) => refusal(heap, fault),
-        },
-    }
-}
-
-// Puts two layers over the system, the first directly over it, and makes the calls of the script.
-fn with_layers<S: CcSystem + Drop>(
-    heap: Global,
-    system: S,
-    first: &Layer,
-    second: &Layer,
-    script: &[u8],
-) -> Result<String, AllocError>
-    ensures layered { IfOk result (λ out. Layered script.now (S.CcSystem.meaning system) (layer_of first.now ∷ layer_of second.now ∷ []) (string_bytes out)) }
-{
-    match first {
-        Layer::Mirror => with_layer(heap, Mirror::over(system), second, script),
-        Layer::Renaming(names) => match Renaming::over(system, names).checked() {
-            Ok(renaming) => with_layer(heap, renaming, second, script),
-            Err(fault) => refusal(heap, fault),
-        },
+    match put_on(system, layer) {
+        Ok(layered) => converse(heap, layered, script),
+        Err(fault) => refusal(heap, fault),
     }
 }
 
@@ -137,8 +113,11 @@ pub fn with_words<S: CcSystem + Drop>(
     let Some(first) = layer_of(heap, word)? else {
         return no_layer(heap, 1);
     };
-    match layer_of(heap, rest)? {
-        Some(second) => with_layers(heap, system, &first, &second, script),
-        None => no_layer(heap, 2),
+    let Some(second) = layer_of(heap, rest)? else {
+        return no_layer(heap, 2);
+    };
+    match put_on(system, &first) {
+        Ok(below) => with_layer(heap, below, &second, script),
+        Err(fault) => refusal(heap, fault),
     }
 }
