@@ -27,6 +27,7 @@ fn sum_of(first: usize, list: &[usize]) -> usize
 }
 
 // What an add answered.
+// stays a function, and so do those for the other answers: each reads a type of its own, and a trait over the four would say it no plainer
 fn of_added(answer: Result<Added, Fault>) -> usize
     ensures worth { result ≡ wrapped (worth (added_answer answer)) }
 {

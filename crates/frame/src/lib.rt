@@ -46,6 +46,7 @@ pub extern "C" fn moarduft_report(heap: Global, text: &[u8], out: &mut [u8]) -> 
 {
     match report(heap, text) {
         Ok(said) => copy(said.as_bytes(), out),
+        // stays a number: C has no `Result`
         Err(_) => usize::MAX,
     }
 }
@@ -63,6 +64,7 @@ pub extern "C" fn moarduft_console(
 {
     match console(heap, text, layers, script) {
         Ok(said) => copy(said.as_bytes(), out),
+        // stays a number: C has no `Result`
         Err(_) => usize::MAX,
     }
 }

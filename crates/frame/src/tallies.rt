@@ -12,6 +12,7 @@ use sheet::Room;
 use shell::commands::Verb;
 
 // The call that a letter means.
+// stays a function: the letters are this tally's, and `Verb` is another crate's
 fn verb_of(byte: u8) -> Option<Verb>
     ensures { MatchOption result ((v : Verb) → byte ≢ letter v) (λ v. byte ≡ letter v) }
 {
@@ -34,6 +35,7 @@ fn tally_once<S: CcSystem>(hull: &mut DynamicHull<S>, calls: &[u8]) -> usize
 {
     let mut total = 0usize;
     let mut rest = calls;
+    // stays a loop over a pattern: it says that calls are pairs, and passes over an odd byte
     while let [byte, number, after @ ..] = rest {
         if let Some(verb) = verb_of(*byte) {
             total = total.wrapping_add(of_call(hull, verb, usize::from(*number)));
@@ -64,6 +66,7 @@ pub(crate) fn tally(text: &[u8], calls: &[u8], times: usize) -> usize
     let mut room = Room::new();
     match open(&mut room, text) {
         Ok(system) => tally_over(system, calls, times),
+        // stays a number: C is told a sum, and a refused sheet is worth 0
         Err(_) => 0,
     }
 }
