@@ -13,7 +13,7 @@ use Rattle.sheet.specs.Cuts.{cut_unique, lacks_not, not_nil}
 use Rattle.shell.specs.Commands.{Wide}
 use Rattle.shell.specs.Layered.{Narrow, SomeNames, Wides, joined, layer_word}
 use Rattle.sheet.specs.FieldsLemmas.{own}
-use Rattle.shell.proofs.Numbers.{lacks_by}
+use Rattle.shell.proofs.Calling.{lacks_by}
 
 -- digits hold no comma
 pub wide_lacks : (b n : ℕ) → b < 48 → Wide n → Lacks b (decimal n)
