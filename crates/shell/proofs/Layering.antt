@@ -1,5 +1,5 @@
 -- What is printed under a layer.
-use Rattle.std.proofs.Common.{◌≡◌, ℕ, ◌<◌, List, ◌∷◌, ◌++◌, length, Some, None, Option, sym, subst, subst₂, arith, length-append}
+use Rattle.std.proofs.Common.{◌≡◌, ℕ, List, ◌∷◌, Some, None, Option, sym, subst, subst₂}
 use Rattle.laws.specs.Systems.{Meaning, Same}
 use Rattle.laws.specs.Layers.{Layer, mirror, mirrored, renamed, renaming}
 use Rattle.cc.specs.Names.{Judged}
@@ -29,7 +29,3 @@ module _ (m : Meaning) (l : Layer) where
 
     pub misnames_by : (f : Fault) → o ≡ Some f → Refused m l f
     misnames_by f is = subst (λ (k : Layer). Refused m k f) (sym e) (misnames (named (Some f) is))
-
--- what follows the mark is shorter
-pub after_shorter : (bs x y : List ℕ) (b : ℕ) → bs ≡ x ++ b ∷ y → length y < length bs
-after_shorter bs x y b e = subst (λ l. length y < length l) (sym e) (omega (arith, length-append x (b ∷ y)))

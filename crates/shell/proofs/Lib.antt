@@ -1,4 +1,4 @@
-pub mod Numbers
+pub mod Calling
 pub mod Answering
 pub mod Layering
 pub mod Words

@@ -1,6 +1,11 @@
 -- The words that name layers. Assumes nothing.
-use Rattle.std.proofs.Common.{◌≡◌, ℕ, ◌<◌, ◌≢◌, List, [], ◌∷◌, ◌++◌, Some, None, codes, decimal, Option, sym, refl, ap, ◌∙◌, subst, append_assoc, append-nil, arith}
+use Rattle.std.proofs.Common.{◌≡◌, ℕ, zero, suc, ◌<◌, ◌≢◌, false, eqb, List, [], ◌∷◌, ◌++◌, map, length, get_or, Some, None, codes, decimal, All, sym, refl, ap, ◌∙◌, subst, append-nil, arith}
+use Rattle.std.specs.List.{slice_split, join_with_byte}
+use Rattle.std.proofs.lemmas.Bool.{ne_eqb}
 use Rattle.std.proofs.lemmas.Fmt.{digits_decimal}
+use Rattle.std.proofs.lemmas.List.{get_or-map, length-map}
+use Rattle.std.proofs.lemmas.List.Elements.{All-from_get_or}
+use Rattle.std.proofs.lemmas.List.Splits.{slice_split_at, slice_split_none, join_with_byte-slice_split, length-slice_split}
 use Rattle.std.proofs.lemmas.Str.Parse.{digit_at}
 use Rattle.laws.specs.Layers.{Layer, mirror, renaming}
 use Rattle.sheet.specs.Fields.{Lacks, Says}
@@ -8,7 +13,7 @@ use Rattle.sheet.specs.Cuts.{cut_unique, lacks_not, not_nil}
 use Rattle.shell.specs.Commands.{Wide}
 use Rattle.shell.specs.Layered.{Narrow, SomeNames, Wides, joined, layer_word}
 use Rattle.sheet.specs.FieldsLemmas.{own}
-use Rattle.shell.proofs.Numbers.{lacks_by}
+use Rattle.shell.proofs.Calling.{lacks_by}
 
 -- digits hold no comma
 pub wide_lacks : (b n : ℕ) → b < 48 → Wide n → Lacks b (decimal n)
@@ -16,50 +21,52 @@ wide_lacks b n low wide i h e =
     let digit = digit_at (decimal n) i (digits_decimal own n (omega arith)) h in
     omega (arith, digit.0)
 
--- names that stand before those of the rest
-abbrev pub put_before : List ℕ → Option (List ℕ) → Option (List ℕ)
-put_before xs None = None
-put_before xs (Some ys) = Some (xs ++ ys)
+-- what stands between the commas of a text
+abbrev pub entries : List ℕ → List (List ℕ)
+entries text = slice_split (λ b. eqb b 44) text
 
-pub put_twice : (xs ys : List ℕ) (o : Option (List ℕ)) → put_before xs (put_before ys o) ≡ put_before (xs ++ ys) o
-put_twice xs ys None = refl
-put_twice xs ys (Some zs) = ap Some (sym (append_assoc xs ys zs))
+-- a name, as an entry
+no_comma : (n : ℕ) → Wide n → All (λ b. eqb b 44 ≡ false) (decimal n)
+no_comma n wide = All-from_get_or (λ b. eqb b 44 ≡ false) (decimal n) 0 (λ i h. ne_eqb _ 44 (wide_lacks 44 n (omega arith) wide i h))
 
-pub put_none : (o : Option (List ℕ)) → put_before [] o ≡ o
-put_none None = refl
-put_none (Some ys) = refl
+-- the entries of names that are parted by commas, and back
+pub entries_joined : (xs : List ℕ) → SomeNames xs → entries (joined xs) ≡ map decimal xs
+entries_joined [] good = absurd (good.0 refl)
+entries_joined (n ∷ []) good = ap entries (append-nil (decimal n)) ∙ slice_split_none (λ b. eqb b 44) (decimal n) (no_comma n good.1.0)
+entries_joined (n ∷ k ∷ ns) good =
+    slice_split_at (λ b. eqb b 44) (decimal n) 44 (joined (k ∷ ns)) (no_comma n good.1.0) refl ∙ ap (λ l. decimal n ∷ l) (entries_joined (k ∷ ns) ((λ z. not_nil k [] ns z), good.1.1))
 
--- the text goes on after a comma
-module _ (rest entry after : List ℕ) (cut : Lacks 44 entry × (rest ≡ entry ++ 44 ∷ after)) where
-  -- the names of the text are that of the entry and those after it
-  parts : (xs : List ℕ) → SomeNames xs → rest ≡ joined xs → (n : ℕ) (ns : List ℕ) → xs ≡ n ∷ ns → Wide n × (entry ≡ decimal n) × SomeNames ns × (after ≡ joined ns)
-  parts xs good is n [] e = absurd (lacks_not 44 entry after (subst (Lacks 44) (sym (append-nil (decimal n)) ∙ sym (is ∙ ap joined e) ∙ cut.1) (wide_lacks 44 n (omega arith) (subst Wides e good.1).0)))
-  parts xs good is n (k ∷ ns) e =
-      let wides = subst Wides e good.1 in
-      let u = cut_unique 44 entry after (decimal n) (joined (k ∷ ns)) cut.0 (wide_lacks 44 n (omega arith) wides.0) (sym cut.1 ∙ (is ∙ ap joined e)) in
-      (wides.0, u.0, ((λ z. not_nil k [] ns z), wides.1), u.1)
+joined_entries : (xs : List ℕ) → join_with_byte 44 (map decimal xs) ≡ joined xs
+joined_entries [] = refl
+joined_entries (n ∷ []) = sym (append-nil (decimal n))
+joined_entries (n ∷ k ∷ ns) = ap (λ l. decimal n ++ 44 ∷ l) (joined_entries (k ∷ ns))
 
-  pub entry_bad : ((n : ℕ) → Wide n → entry ≡ decimal n → ⊥) → Says SomeNames joined rest None
-  entry_bad none [] good is = good.0 refl
-  entry_bad none (n ∷ ns) good is = let p = parts (n ∷ ns) good is n ns refl in none n p.0 p.1
-
-  pub entry_good : (n : ℕ) → Wide n × (entry ≡ decimal n) → (o : Option (List ℕ)) → Says SomeNames joined after o → Says SomeNames joined rest (put_before (n ∷ []) o)
-  entry_good n told None none = λ xs good is. go xs good is
+module _ (text : List ℕ) where
+  -- all entries are names
+  pub all_named : (xs : List ℕ) → Wides xs → map decimal xs ≡ entries text → Says SomeNames joined text (Some xs)
+  all_named xs wides is = ((some xs is, wides), sym (ap (join_with_byte 44) is ∙ join_with_byte-slice_split 44 text) ∙ joined_entries xs)
     where
-      go : (xs : List ℕ) → SomeNames xs → rest ≡ joined xs → ⊥
-      go [] good is = good.0 refl
-      go (k ∷ ns) good is = let p = parts (k ∷ ns) good is k ns refl in none ns p.2 p.3
-  entry_good n told (Some []) says = absurd (says.0.0 refl)
-  entry_good n told (Some (k ∷ ns)) says = (((λ z. not_nil n [] (k ∷ ns) z), (told.0, says.0.1)), cut.1 ∙ (λ i. told.1 i ++ 44 ∷ says.1 i))
+      some : (xs : List ℕ) → map decimal xs ≡ entries text → xs ≢ []
+      some [] is e = omega (arith, ap length is, length-slice_split (λ b. eqb b 44) text)
+      some (n ∷ ns) is e = not_nil n [] ns e
 
--- the last name
-pub last_good : (rest : List ℕ) (n : ℕ) → Wide n × (rest ≡ decimal n) → Says SomeNames joined rest (Some (n ∷ []))
-last_good rest n told = (((λ z. not_nil n [] [] z), (told.0, tt)), told.1 ∙ sym (append-nil (decimal n)))
+  -- an entry is no name
+  pub one_unnamed : (entry : List ℕ) (k : ℕ) → (k < length (entries text)) × (entry ≡ get_or (entries text) k entry) → ((n : ℕ) → Wide n → entry ≡ decimal n → ⊥) → Says SomeNames joined text None
+  one_unnamed entry k at none xs good is =
+      let parts : entries text ≡ map decimal xs = ap entries is ∙ entries_joined xs good in
+      let n = get_or xs k 0 in
+      let few : k < length xs = omega (arith, at.0, ap length parts, length-map xs decimal) in
+      none n (wide_at xs good.1 k few) (at.1 ∙ ap (λ l. get_or l k entry) parts ∙ get_or-map decimal xs k 0 entry few)
+    where
+      wide_at : (xs : List ℕ) → Wides xs → (k : ℕ) → k < length xs → Wide (get_or xs k 0)
+      wide_at [] wides k few = absurd (omega arith)
+      wide_at (n ∷ ns) wides zero few = wides.0
+      wide_at (n ∷ ns) wides (suc k) few = wide_at ns wides.1 k (omega arith)
 
-pub last_bad : (rest : List ℕ) → Lacks 44 rest → ((n : ℕ) → Wide n → rest ≡ decimal n → ⊥) → Says SomeNames joined rest None
-last_bad rest l none [] good is = good.0 refl
-last_bad rest l none (n ∷ []) good is = none n good.1.0 (is ∙ append-nil (decimal n))
-last_bad rest l none (n ∷ (k ∷ ns)) good is = lacks_not 44 (decimal n) (joined (k ∷ ns)) (subst (Lacks 44) is l)
+-- one name more
+pub wides_more : (xs : List ℕ) (n : ℕ) → Wides xs → Wide n → Wides (xs ++ n ∷ [])
+wides_more [] n wides wide = (wide, tt)
+wides_more (x ∷ xs) n wides wide = (wides.0, wides_more xs n wides.1 wide)
 
 -- a word with no colon names a mirror or nothing
 pub no_colon : (word : List ℕ) → (word ≡ codes "mirror" → ⊥) → Lacks 58 word → (l : Layer) → Narrow l → word ≡ layer_word l → ⊥

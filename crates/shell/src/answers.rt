@@ -22,7 +22,7 @@ const LIMIT: usize = 128;
 
 // Adds what an add answered.
 fn put_added(out: &mut String, answer: Result<Added, Fault>) -> Result<(), AllocError>
-    ensures put { OnOk result (((count : ℕ) → string_bytes out.new ≡ string_bytes out.old ++ shown count Add (added_answer answer))) }
+    ensures put { OnOk result ((count : ℕ) → string_bytes out.new ≡ string_bytes out.old ++ shown count Add (added_answer answer)) }
 {
     match answer {
         Ok(Added { side, left }) => match side {
@@ -35,7 +35,7 @@ fn put_added(out: &mut String, answer: Result<Added, Fault>) -> Result<(), Alloc
 
 // Adds what a drop answered.
 fn put_dropped(out: &mut String, answer: Result<usize, Fault>) -> Result<(), AllocError>
-    ensures put { OnOk result (((count : ℕ) → string_bytes out.new ≡ string_bytes out.old ++ shown count TakeOut (dropped_answer answer))) }
+    ensures put { OnOk result ((count : ℕ) → string_bytes out.new ≡ string_bytes out.old ++ shown count TakeOut (dropped_answer answer)) }
 {
     match answer {
         Ok(came) => write!(out, "\t{came}"),
@@ -45,7 +45,7 @@ fn put_dropped(out: &mut String, answer: Result<usize, Fault>) -> Result<(), All
 
 // Adds where a mark stands.
 fn put_placed(out: &mut String, answer: Result<Placed, Fault>) -> Result<(), AllocError>
-    ensures put { OnOk result (((count : ℕ) → string_bytes out.new ≡ string_bytes out.old ++ shown count Place (placed_answer answer))) }
+    ensures put { OnOk result ((count : ℕ) → string_bytes out.new ≡ string_bytes out.old ++ shown count Place (placed_answer answer)) }
 {
     match answer {
         Ok(Placed::Edge(position)) => write!(out, "\tedge\t{position}"),
@@ -56,7 +56,7 @@ fn put_placed(out: &mut String, answer: Result<Placed, Fault>) -> Result<(), All
 
 // Adds the neighbours of a mark.
 fn put_neighbours(out: &mut String, answer: Result<(usize, usize), Fault>) -> Result<(), AllocError>
-    ensures put { OnOk result (((count : ℕ) → string_bytes out.new ≡ string_bytes out.old ++ shown count Neighbours (neighbours_answer answer))) }
+    ensures put { OnOk result ((count : ℕ) → string_bytes out.new ≡ string_bytes out.old ++ shown count Neighbours (neighbours_answer answer)) }
 {
     match answer {
         Ok((before, after)) => write!(out, "\t{before}\t{after}"),
@@ -70,7 +70,7 @@ fn put_outline<S: CcSystem>(
     hull: &DynamicHull<S>,
     list: &mut [usize],
 ) -> Result<(), AllocError>
-    ensures put { OnOk result (((a : Answer) × Answers (S.CcSystem.meaning hull.now.system) (held hull.now.state.records) (outline list.old) a × (string_bytes out.new ≡ string_bytes out.old ++ shown (S.CcSystem.meaning hull.now.system).count Outline a))) }
+    ensures put { OnOk result ((a : Answer) × Answers (S.CcSystem.meaning hull.now.system) (held hull.now.state.records) (outline list.old) a × (string_bytes out.new ≡ string_bytes out.old ++ shown (S.CcSystem.meaning hull.now.system).count Outline a)) }
 {
     match hull.outline(list) {
         Ok(length) => {
@@ -87,7 +87,7 @@ fn put_rounds<S: CcSystem>(
     hull: &DynamicHull<S>,
     list: &mut [usize],
 ) -> Result<(), AllocError>
-    ensures put { OnOk result (((a : Answer) × Answers (S.CcSystem.meaning hull.now.system) (held hull.now.state.records) (rounds list.old) a × (string_bytes out.new ≡ string_bytes out.old ++ shown (S.CcSystem.meaning hull.now.system).count Rounds a))) }
+    ensures put { OnOk result ((a : Answer) × Answers (S.CcSystem.meaning hull.now.system) (held hull.now.state.records) (rounds list.old) a × (string_bytes out.new ≡ string_bytes out.old ++ shown (S.CcSystem.meaning hull.now.system).count Rounds a)) }
 {
     match hull.rounds(list) {
         Ok(number) => {

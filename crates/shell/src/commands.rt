@@ -61,6 +61,7 @@ impl fmt::Display for Verb {
 }
 
 // Whether the bytes are those of the word.
+// Stays: `bytes == b"census".as_slice()` at each place is no plainer.
 pub(crate) fn is(bytes: &[u8], word: &str) -> bool
     ensures { MatchBool result (bytes.now ≡ word.now) (bytes.now ≢ word.now) }
 {

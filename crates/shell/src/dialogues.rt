@@ -72,6 +72,8 @@ pub fn converse<S: CcSystem + Drop>(
 {
     let mut hull = DynamicHull::over(system);
     let mut out = String::new(heap);
+    // Stays a loop by hand: tried as a `for` over `script.split_inclusive(..).enumerate()`, and the proof did not close,
+    // for in a generic function the check cannot type such an iterator.
     let mut rest = script;
     let mut number = 1;
     while let Some((line, after)) = next_line(rest) {

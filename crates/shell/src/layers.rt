@@ -48,18 +48,12 @@ fn names(heap: Global, text: &[u8]) -> Result<Option<Vec<usize>>, AllocError>
     ensures names { IfOk result (λ o. MatchOption o (Says SomeNames joined text.now None) (λ v. Says SomeNames joined text.now (Some v.items))) }
 {
     let mut names = Vec::new(heap);
-    let mut rest = text;
-    while let Some((entry, after)) = cut(rest, b',') {
+    for entry in text.split(|byte| *byte == b',') {
         let Some(name) = number(entry, usize::MAX) else {
             return Ok(None);
         };
         names.push(name)?;
-        rest = after;
     }
-    let Some(name) = number(rest, usize::MAX) else {
-        return Ok(None);
-    };
-    names.push(name)?;
     Ok(Some(names))
 }
 

@@ -6,7 +6,7 @@ mod answers;
 pub mod commands;
 pub mod dialogues;
 pub mod layers;
-pub mod over;
+mod over;
 
 ghost use Rattle.std.specs.Prelude.{IfOk, string_bytes};
 ghost use Rattle.shell.specs.Consoles.{Console};

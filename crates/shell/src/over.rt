@@ -13,7 +13,7 @@ use cc::{CcSystem, Turn};
 
 // A system with a layer over it.
 #[derive(Drop)]
-pub enum Over<S: CcSystem> {
+pub(crate) enum Over<S: CcSystem> {
     Mirror(Mirror<S>),
     Renaming(Renaming<S>),
 }

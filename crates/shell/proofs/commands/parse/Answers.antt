@@ -1,5 +1,5 @@
 use Rattle.std.proofs.Common.{arith}
-use Rattle.shell.proofs.Numbers.{no_space, no_parts}
+use Rattle.shell.proofs.Calling.{no_space, no_parts}
 use Rattle.shell.proofs.commands.parse.Goals as goal
 
 pub returns-in_err-word : goal.returns-in_err-word

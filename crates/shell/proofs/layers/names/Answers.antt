@@ -1,29 +1,32 @@
-use Rattle.std.proofs.Common.{[], ◌∷◌, Some, None, vec_items, sym, ap, ◌∙◌, subst, arith}
-use Rattle.sheet.specs.Fields.{Says}
-use Rattle.shell.specs.Layered.{SomeNames, joined}
-use Rattle.shell.proofs.Layering.{after_shorter}
-use Rattle.shell.proofs.Words.{put_before, put_twice, put_none, entry_bad, entry_good, last_bad, last_good}
+use Rattle.std.proofs.Common.{◌∷◌, ◌++◌, [], map, length, eqb, vec_items, decimal, rules, tests, sym, ap, ◌∙◌, subst, arith}
+use Rattle.std.proofs.lemmas.List.{map-append}
+use Rattle.std.proofs.lemmas.Iterator.Consumers.{YieldsList-turn, YieldsList-end}
+use Rattle.std.proofs.lemmas.Iterator.Splits.{YieldsList-from_slice_split}
+use Rattle.shell.specs.Layered.{Wides}
+use Rattle.shell.proofs.Words.{all_named, one_unnamed, wides_more}
 use Rattle.shell.proofs.layers.names.Goals as goal
 
-pub loop-entry-init : goal.loop-entry-init
-loop-entry-init c = λ o says. subst (Says SomeNames joined c.args.text.now) (sym (put_none o) ∙ ap (λ l. put_before l o) (sym c.new-names.ensures.items)) says
-
-pub loop-entry-smaller : goal.loop-entry-smaller
-loop-entry-smaller c = after_shorter _ _ _ _ c.in-Some.ensures.parts.1
-
-pub returns-in_default-number : goal.returns-in_default-number
-returns-in_default-number c = record { names = c.loop-entry.invariant None (entry_bad _ _ _ c.in-Some.ensures.parts (λ n wide. c.in_default-number.ensures.number n (omega (arith, wide)))) }
+pub returns-in_default : goal.returns-in_default
+returns-in_default c =
+    let text = c.args.text.now in
+    record {
+      names = one_unnamed text c.in-Some.entry.now (length c.loop-entry.yielded)
+          (YieldsList-turn (YieldsList-from_slice_split _ (λ b. eqb b 44) text (cc) (cc) (cc) (λ x b q k. search (rules, tests))) c.loop-entry.yielded c.loop-entry.entry-iterator c.loop-entry.yielded_by _ c.next.new.self c.in-Some.entry c.in-Some.is c.next.ensures.steps)
+          (λ n wide. c.in_default.ensures.number n (omega (arith, wide)));
+    }
 
 pub loop-entry-preserved : goal.loop-entry-preserved
-loop-entry-preserved c = λ o says.
-    subst (Says SomeNames joined c.args.text.now) (put_twice (vec_items c.loop-entry.names) (c.in-Some-number.name ∷ []) o ∙ ap (λ l. put_before l o) (sym c.in_ok-push.ensures.items))
-    (c.loop-entry.invariant (put_before (c.in-Some-number.name ∷ []) o) (entry_good _ _ _ c.in-Some.ensures.parts _ (let told = c.in-Some-number.ensures.number in (omega (arith, told.0), told.1)) o says))
-
-pub returns-in_default-number-2 : goal.returns-in_default-number-2
-returns-in_default-number-2 c = record { names = c.loop-entry.invariant None (last_bad _ c.in_default.ensures.parts (λ n wide. c.in_default-number-2.ensures.number n (omega (arith, wide)))) }
+loop-entry-preserved c =
+    let told = c.in-Some-number.ensures.number in
+    let items = c.in_ok-push.ensures.items in (
+      subst Wides (sym items) (wides_more _ _ c.loop-entry.invariant.0 (omega (arith, told.0))),
+      ap (map decimal) items ∙ map-append decimal (vec_items c.loop-entry.names) (c.in-Some-number.name ∷ []) ∙ (λ i. c.loop-entry.invariant.1 i ++ sym told.1 i ∷ []) ∙ sym (map-append (λ e. e.now) c.loop-entry.yielded (c.in-Some.entry ∷ [])),
+    )
 
 pub returns : goal.returns
 returns c =
-    let n = c.in-Some-number-2.name in
-    let told = c.in-Some-number-2.ensures.number in
-    record { names = subst (λ l. Says SomeNames joined c.args.text.now (Some l)) (sym c.in_ok-push-2.ensures.items) (c.loop-entry.invariant (Some (n ∷ [])) (last_good _ n (omega (arith, told.0), told.1))) }
+    let text = c.args.text.now in
+    record {
+      names = all_named text (vec_items c.loop-entry.names) c.loop-entry.invariant.0
+          (c.loop-entry.invariant.1 ∙ (YieldsList-end (YieldsList-from_slice_split _ (λ b. eqb b 44) text (cc) (cc) (cc) (λ x b q k. search (rules, tests))) c.loop-entry.yielded c.loop-entry.entry-iterator c.loop-entry.yielded_by _ c.next.new.self c.in-None.is c.next.ensures.steps).0);
+    }

@@ -44,10 +44,10 @@ abbrev pub verbs : List Verb
 verbs = Add ∷ Drop ∷ Place ∷ Neighbours ∷ Outline ∷ Rounds ∷ []
 
 -- the first of them that has the word, or none of them has it
-pub one_word : (w : List ℕ) (r : Option Verb) → (let No : Verb → Type 0 = λ v. w ≢ name v in MatchOption r (AllWithin No verbs 0 (length verbs)) (λ v. (w ≡ name v) × (i : ℕ) × (i < length verbs) × HoldsAt (λ u. u ≡ v) verbs i × AllWithin No verbs 0 i))
+pub found_word : (w : List ℕ) (r : Option Verb) → (let No : Verb → Type 0 = λ v. w ≢ name v in MatchOption r (AllWithin No verbs 0 (length verbs)) (λ v. (w ≡ name v) × (i : ℕ) × (i < length verbs) × HoldsAt (λ u. u ≡ v) verbs i × AllWithin No verbs 0 i))
     → MatchOption r ((v : Verb) → w ≢ name v) (λ v. w ≡ name v)
-one_word w (Some v) found = found.0
-one_word w None none = each
+found_word w (Some v) found = found.0
+found_word w None none = each
   where
     each : (v : Verb) → w ≢ name v
     each Add = none 0 Add (omega arith) (omega arith)
