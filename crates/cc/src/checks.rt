@@ -5,12 +5,14 @@ ghost use Rattle.cc.specs.declared.faults.Fault.{Fault};
 
 use super::faults::{Fault, accepted};
 
-// A system or a layer that is opened by a check: refused, it has no mark, and tells its fault.
+// What is opened by a check that may refuse it, and then tells its fault.
 pub trait Checked: Sized {
     // why it is refused; none where it is accepted
     ghost refusal: { Self → Option Fault };
 
     // Why it is refused; none where it is accepted.
+    // stays an `Option`, as does the field in each system that it tells: opening cannot fail, a refused system is one of no mark, and
+    // whoever wants a `Result` asks for `checked`
     fn fault(&self) -> Option<Fault>
         ensures told { result ≡ refusal self.now };
 

@@ -4,6 +4,7 @@
 
 pub mod checks;
 pub mod faults;
+pub mod lists;
 pub mod mirrors;
 pub mod renamings;
 pub mod texts;
@@ -11,6 +12,9 @@ pub mod texts;
 ghost use Rattle.std.specs.Prelude.{◌≡◌};
 ghost use Rattle.laws.specs.Systems.{Meaning, Lawful};
 ghost use Rattle.cc.specs.Turns.{Told, other_way};
+
+// The most marks that a system has.
+pub const LIMIT: usize = 128;
 
 // How three marks turn.
 #[derive(Clone, Copy, PartialEq, Eq, Debug)]

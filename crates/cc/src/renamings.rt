@@ -9,18 +9,15 @@ ghost use Rattle.cc.specs.Names.{Bad, Judged};
 
 use super::checks::Checked;
 use super::faults::Fault;
-use super::{CcSystem, Turn};
+use super::{CcSystem, LIMIT, Turn};
 use arrayvec::ArrayVec;
-
-// The most names that a renaming holds.
-const LIMIT: usize = 128;
 
 // Marks of the system below under new names: mark i means the i-th entry of the list.
 // A refused renaming has no mark, and tells its fault.
 #[derive(Drop)]
 pub struct Renaming<S: CcSystem> {
     below: S,
-    names: ArrayVec<usize, 128>,
+    names: ArrayVec<usize, LIMIT>,
     // stays beside what is held: opening cannot fail, and `checked` gives the system or the fault
     fault: Option<Fault>,
     // the names are different marks of the system below
@@ -90,7 +87,7 @@ impl<S: CcSystem> CcSystem for Renaming<S> {
 }
 
 // A list as the names of marks of a system with `count` marks, or why it is none.
-fn held(count: usize, names: &[usize]) -> Result<ArrayVec<usize, 128>, Fault>
+fn held(count: usize, names: &[usize]) -> Result<ArrayVec<usize, LIMIT>, Fault>
     ensures judged { MatchResult result (λ held. (held.items ≡ names.now) × Judged count names.now None) (λ fault. Judged count names.now (Some fault)) }
 {
     let Ok(held) = ArrayVec::try_from(names) else {

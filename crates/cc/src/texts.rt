@@ -1,9 +1,11 @@
-//! Numbers and refusals as text.
+//! Numbers, turns and refusals as text.
 
-ghost use Rattle.std.specs.Prelude.{Some};
-ghost use Rattle.cc.specs.Texts.{refused, tabbed};
+ghost use Rattle.std.specs.Prelude.{[], ◌∷◌, Some};
+ghost use Rattle.cc.specs.Texts.{Sided, refused, side, tabbed, unknown};
 
+use super::Turn;
 use super::faults::Fault;
+use std::error::Error;
 use std::fmt;
 
 // Numbers, each after a tab.
@@ -30,5 +32,64 @@ impl fmt::Display for Fault {
         let places = self.places();
         let used = Tabbed(&places[..self.places_used()]);
         write!(f, "no\t{number}{used}")
+    }
+}
+
+// A letter that says nothing.
+#[derive(Clone, Copy, PartialEq, Eq, Debug)]
+pub struct UnknownLetter(pub u8);
+
+impl fmt::Display for UnknownLetter {
+    ghost output = { λ letter. Some (unknown letter.0) };
+
+    fn fmt<W: fmt::Write>(&self, f: &mut fmt::Formatter<W>) -> fmt::Result {
+        write!(f, "unknown letter {}", self.0)
+    }
+}
+
+impl Error for UnknownLetter {}
+
+// L or R.
+impl fmt::Display for Turn {
+    ghost output = { λ turn. Some (side turn ∷ []) };
+
+    fn fmt<W: fmt::Write>(&self, f: &mut fmt::Formatter<W>) -> fmt::Result {
+        f.write_str(match self {
+            Turn::Left => "L",
+            Turn::Right => "R",
+        })
+    }
+}
+
+// The turn that L or R tells.
+impl TryFrom<u8> for Turn {
+    type Error = UnknownLetter;
+
+    ghost try_from_gives = { Sided };
+
+    fn try_from(letter: u8) -> Result<Turn, UnknownLetter> {
+        match letter {
+            b'L' => Ok(Turn::Left),
+            b'R' => Ok(Turn::Right),
+            _ => Err(UnknownLetter(letter)),
+        }
+    }
+}
+
+#[cfg(test)]
+mod tests {
+    use super::*;
+    use std::test::Fail;
+
+    #[test]
+    fn a_turn_has_its_letter(rt: HostRuntime) -> Result<(), Fail> {
+        assert_eq!(rt; Turn::try_from(b'R'), Ok(Turn::Right));
+        assert_eq!(rt; Turn::try_from(b'r'), Err(UnknownLetter(114)));
+        assert_eq!(rt; format!(in rt.alloc(); "{}", Turn::Left)?.as_str(), "L");
+        assert_eq!(rt;
+            format!(in rt.alloc(); "{}", UnknownLetter(114))?.as_str(),
+            "unknown letter 114"
+        );
+        Ok(())
     }
 }

@@ -3,6 +3,7 @@
 #![tactic(auto)]
 
 pub mod catalogue;
+pub mod counts;
 pub mod networks;
 pub mod places;
 

@@ -1,8 +1,39 @@
 //! Places in the plane.
 
+ghost use Rattle.std.specs.Prelude.{MatchBool};
+ghost use Rattle.models.specs.Places.{Near};
+
+// The greatest size of a coordinate.
+const REACH: u32 = 10_000;
+
 // A place, in twentieths of a millimetre.
 #[derive(Clone, Copy, PartialEq, Eq, Debug)]
 pub struct Place {
     pub x: i32,
     pub y: i32,
+}
+
+impl Place {
+    // Whether both coordinates are in range.
+    pub fn is_near(self) -> bool
+        ensures near { MatchBool result (Near self) (Near self → ⊥) }
+    {
+        self.x.unsigned_abs() <= REACH && self.y.unsigned_abs() <= REACH
+    }
+}
+
+#[cfg(test)]
+mod tests {
+    use super::*;
+
+    #[test]
+    fn places_in_range(rt: HostRuntime) {
+        let corner = Place {
+            x: 10_000,
+            y: -10_000,
+        };
+        assert!(rt; corner.is_near());
+        assert!(rt; !Place { x: 10_001, y: 0 }.is_near());
+        assert!(rt; !Place { x: 0, y: -10_001 }.is_near());
+    }
 }

@@ -1,0 +1,33 @@
+//! How many pairs and threes some marks have.
+
+ghost use Rattle.std.specs.Prelude.{◌≡◌, min};
+ghost use Rattle.models.specs.Threes.{pairs_of, threes_of};
+
+// How many pairs n marks have; more than 32 marks are taken as 32.
+pub fn pairs(n: usize) -> usize
+    ensures number { result ≡ pairs_of (min n 32) }
+{
+    let n = n.min(32);
+    n * n.saturating_sub(1) / 2
+}
+
+// How many threes n marks have; more than 24 marks are taken as 24.
+pub fn threes(n: usize) -> usize
+    ensures number { result ≡ threes_of (min n 24) }
+{
+    let n = n.min(24);
+    n * n.saturating_sub(1) * n.saturating_sub(2) / 6
+}
+
+#[cfg(test)]
+mod tests {
+    use super::*;
+
+    #[test]
+    fn of_the_most_marks(rt: HostRuntime) {
+        assert_eq!(rt; pairs(32), 496);
+        assert_eq!(rt; threes(24), 2024);
+        assert_eq!(rt; pairs(5), 10);
+        assert_eq!(rt; threes(2), 0);
+    }
+}
