@@ -68,9 +68,9 @@ impl TryFrom<u8> for Turn {
     ghost try_from_gives = { Sided };
 
     fn try_from(letter: u8) -> Result<Turn, UnknownLetter> {
-        match letter {
-            b'L' => Ok(Turn::Left),
-            b'R' => Ok(Turn::Right),
+        match char::from(letter) {
+            'L' => Ok(Turn::Left),
+            'R' => Ok(Turn::Right),
             _ => Err(UnknownLetter(letter)),
         }
     }
