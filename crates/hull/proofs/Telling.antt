@@ -9,7 +9,8 @@ use Rattle.cc.specs.declared.faults.Fault.TheVariants.{Tight}
 use Rattle.runs.specs.Calls.{Call, Asks, to_add, NeedsIn, RingOf, Rounds, Answers, add, outline, rounds, stranger, already_in, absent, wrote, declined, reads, counts, tight_ring, tight_rounds}
 use Rattle.hull.specs.declared.records.Record.{Record}
 use Rattle.hull.specs.Records.{held, Sound}
-use Rattle.hull.specs.Replies.{list_answer, Copied, Admits, Holds}
+use Rattle.cc.specs.Lists.{Copied}
+use Rattle.hull.specs.Replies.{list_answer, Admits, Holds}
 
 pub empty_sound : (m : Meaning) (rs : List Record) (ring : List ℕ) → ((p : ℕ) → held rs p ≡ false) → length ring ≡ 0 → Sound m rs ring
 empty_sound m rs [] out e =

@@ -4,3 +4,4 @@ pub mod Replies
 pub mod Words
 pub mod Soundness
 pub mod Histories
+pub mod Texts

@@ -1,8 +1,8 @@
 -- What the code's answers say: each as an answer to a call.
-use Rattle.std.specs.Prelude.{◌≡◌, ℕ, ◌+◌, ◌-◌, ◌<◌, ◌≤◌, Bool, true, false, List, [], ◌++◌, length, drop, Some, None, Ok, Err, Option, Result}
+use Rattle.std.specs.Prelude.{◌≡◌, ℕ, ◌+◌, ◌-◌, ◌<◌, ◌≤◌, Bool, true, false, List, [], length, Some, None, Ok, Err, Option, Result}
 use Rattle.laws.specs.Systems.{Meaning}
 use Rattle.cc.specs.declared.faults.Fault.{Fault}
-use Rattle.cc.specs.declared.faults.Fault.TheVariants.{Stranger, AlreadyIn, Absent, Tight}
+use Rattle.cc.specs.declared.faults.Fault.TheVariants.{Stranger, AlreadyIn, Absent}
 use Rattle.runs.specs.Calls.{edge, inside, Answer, added, dropped, at, within, beside, wrote, declined, On}
 use Rattle.runs.specs.Calls.{Side as Standing}
 use Rattle.hull.specs.declared.answers.Side.{Side}
@@ -49,11 +49,6 @@ Exchanged old new x (Some n) = On new x × (n ≡ length old + 1 - length new)
 abbrev pub added_by : Option ℕ → Added
 added_by None = record { side = Inside; left = 0 }
 added_by (Some n) = record { side = Edge; left = n }
-
--- the ring was written at the front of the list, or the list is too short for it and stays as it was
-abbrev pub Copied : List ℕ → List ℕ → List ℕ → Result ℕ Fault → Type 0
-Copied ring before after (Ok n) = (n ≡ length ring) × (length ring ≤ length before) × (after ≡ ring ++ drop (length ring) before)
-Copied ring before after (Err f) = (f ≡ Tight (length ring)) × (length before < length ring) × (after ≡ before)
 
 -- whether a mark may be added: it is one of the system's, and not in; refused, it is a stranger, or else in
 abbrev pub Admits : Meaning → (ℕ → Bool) → ℕ → Result Unit0 Fault → Type 0

@@ -9,7 +9,8 @@ pub enum Side {
     Inside,
 }
 
-// What an add did: where the mark stands, and how many marks left the outline.
+// What an add did: where the mark stands, and how many marks left the outline, none where it stands within.
+// Stays a struct: both are answered of every mark, and a case of each side, the one with no number, would be an `Option` by another name.
 #[derive(Clone, Copy, PartialEq, Eq, Debug)]
 pub struct Added {
     pub side: Side,

@@ -54,10 +54,9 @@ impl Ring {
         requires room { length (listed self.now) < 128 }
         ensures appended { listed result ≡ listed self.now ++ x ∷ [] }
     {
-        let mut marks = ArrayVec::new();
-        for mark in self.marks.iter() {
-            marks.push(*mark);
-        }
+        let Ok(mut marks) = ArrayVec::try_from(&self.marks[..]) else {
+            unreachable()
+        };
         marks.push(x);
         Ring { marks }
     }

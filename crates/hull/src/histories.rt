@@ -102,21 +102,21 @@ fn carry_out<S: CcSystem>(
     }
 }
 
-// Makes the calls on an unused hull, one after the other, and records each answer.
-fn replay<S: CcSystem>(
+// Makes the calls on an unused hull over the system, one after the other, and records each answer.
+fn replay<S: CcSystem + Drop>(
     heap: Global,
-    hull: &mut DynamicHull<S>,
+    system: S,
     calls: &[Call],
-) -> Result<Vec<Answer>, AllocError>
-    requires unused { (p : ℕ) → held hull.old.state.records p ≡ false }
-    ensures ran { IfOk result (λ answers. Ran (S.CcSystem.meaning hull.old.system) (history calls.now answers.items) (held hull.new.state.records)) }
-    ensures system { hull.new.system ≡ hull.old.system }
+) -> Result<(DynamicHull<S>, Vec<Answer>), AllocError>
+    ensures ran { IfOk result (λ r. Ran (S.CcSystem.meaning system) (history calls.now r.1.items) (held r.0.state.records)) }
+    ensures system { IfOk result (λ r. r.0.system ≡ system) }
 {
+    let mut hull = DynamicHull::over(system);
     let mut answers = Vec::new(heap);
     for call in calls {
-        answers.push(carry_out(heap, hull, call)?)?;
+        answers.push(carry_out(heap, &mut hull, call)?)?;
     }
-    Ok(answers)
+    Ok((hull, answers))
 }
 
 // Two histories on two hulls, and the answers to one question that was put to both at the end.
@@ -140,10 +140,8 @@ pub fn compare<S: CcSystem + Drop, T: CcSystem + Drop>(
 ) -> Result<Comparison, AllocError>
     ensures compared { IfOk result (λ c. Compared (S.CcSystem.meaning first) (history first_calls.now c.first.items) (T.CcSystem.meaning second) (history second_calls.now c.second.items) (question_of question.now) (answer_of c.first_answer) (answer_of c.second_answer)) }
 {
-    let mut one = DynamicHull::over(first);
-    let mut other = DynamicHull::over(second);
-    let first = replay(heap, &mut one, first_calls)?;
-    let second = replay(heap, &mut other, second_calls)?;
+    let (one, first) = replay(heap, first, first_calls)?;
+    let (other, second) = replay(heap, second, second_calls)?;
     let first_answer = ask(heap, &one, question)?;
     let second_answer = ask(heap, &other, question)?;
     Ok(Comparison {

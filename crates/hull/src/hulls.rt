@@ -12,6 +12,7 @@ use super::peeling::rounds_of;
 use super::records::HullState;
 use cc::CcSystem;
 use cc::faults::Fault;
+use cc::lists::copy_front;
 
 // Some marks of a CC system, those that are in, and the outline around them. A mark is in from an add of it that is
 // not declined until the next such drop.
@@ -52,7 +53,7 @@ impl<S: CcSystem> DynamicHull<S> {
     pub fn outline(&self, list: &mut [usize]) -> Result<usize, Fault>
         ensures answer { Answers (S.CcSystem.meaning self.now.system) (held self.now.state.records) (outline list.old) (list_answer result list.new) }
     {
-        self.state.ring.copy_to(list)
+        copy_front(&self.state.ring.marks, list)
     }
 
     // Writes the round of each mark of the system at the front of the list, 0 for a mark that is not in; the number of rounds.

@@ -14,4 +14,5 @@ mod placing;
 mod records;
 mod rings;
 mod states;
+mod texts;
 mod writing;

@@ -8,10 +8,10 @@ ghost use Rattle.hull.specs.Rings.{listed};
 ghost use Rattle.hull.specs.Records.{flagged};
 
 use super::rings::Ring;
-use cc::CcSystem;
+use cc::{CcSystem, LIMIT};
 
 // The outline of the flagged marks, from its lowest mark on: one mark after another.
-pub(crate) fn outline_of<S: CcSystem>(system: &S, flags: &[bool; 128]) -> Ring
+pub(crate) fn outline_of<S: CcSystem>(system: &S, flags: &[bool; LIMIT]) -> Ring
     requires marks { Marks (S.CcSystem.meaning system.now) (of (flagged flags.now)) }
     ensures ring { RingOf (S.CcSystem.meaning system.now) (flagged flags.now) (listed result) }
 {

@@ -9,10 +9,10 @@ ghost use Rattle.hull.specs.Records.{flagged};
 
 use super::outlining::outline_of;
 use super::rings::Ring;
-use cc::CcSystem;
+use cc::{CcSystem, LIMIT};
 
 // Enters the round of the ring's marks, and takes them off the flags.
-fn peel(ring: &Ring, round: usize, flags: &mut [bool; 128], entries: &mut [usize])
+fn peel(ring: &Ring, round: usize, flags: &mut [bool; LIMIT], entries: &mut [usize])
     requires small { (i : ℕ) → i < length (listed ring.now) → (slice_index (listed ring.now) i < 128) × (slice_index (listed ring.now) i < length entries.old) }
     ensures on { (p : ℕ) → On (listed ring.now) p → (slice_index entries.new p ≡ round) × (flagged flags.new p ≡ false) }
     ensures off { (p : ℕ) → (On (listed ring.now) p → ⊥) → (slice_index entries.new p ≡ slice_index entries.old p) × (flagged flags.new p ≡ flagged flags.old p) }
@@ -26,7 +26,7 @@ fn peel(ring: &Ring, round: usize, flags: &mut [bool; 128], entries: &mut [usize
 // Enters the round of each flagged mark, and 0 for each other; the number of rounds.
 pub(crate) fn rounds_of<S: CcSystem>(
     system: &S,
-    flags: &mut [bool; 128],
+    flags: &mut [bool; LIMIT],
     entries: &mut [usize],
 ) -> usize
     requires marks { Marks (S.CcSystem.meaning system.now) (of (flagged flags.old)) }

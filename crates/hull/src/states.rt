@@ -6,6 +6,7 @@ ghost use Rattle.hull.specs.Records.{held, flagged, Linked, Recorded, with_after
 
 use super::records::{HullState, Record};
 use super::rings::Ring;
+use cc::LIMIT;
 
 impl HullState {
     // No mark is in.
@@ -18,18 +19,18 @@ impl HullState {
                 is_in: false,
                 before: 0,
                 after: 0,
-            }; 128],
+            }; LIMIT],
             ring: Ring::empty(),
         }
     }
 
     // Whether each mark is in.
-    pub(crate) fn flags(&self) -> [bool; 128]
+    pub(crate) fn flags(&self) -> [bool; LIMIT]
         ensures flags { (p : ℕ) → flagged result p ≡ held self.now.records p }
     {
         // Stays a loop: `self.records.map(..)` copies the records first, which makes a drop on a small section a
         // quarter slower.
-        let mut flags = [false; 128];
+        let mut flags = [false; LIMIT];
         for (mark, record) in self.records.iter().enumerate() {
             flags[mark] = record.is_in;
         }

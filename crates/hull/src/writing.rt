@@ -1,28 +1,10 @@
-//! What a hull tells of all its marks: the ring into the caller's list, and the marks as bits.
+//! The marks that are in as bits.
 
 ghost use Rattle.std.specs.Prelude.{◌≡◌, ℕ, ◌+◌, ◌<◌, ◌≤◌};
-ghost use Rattle.hull.specs.Rings.{listed};
 ghost use Rattle.hull.specs.Records.{held};
-ghost use Rattle.hull.specs.Replies.{Copied};
 ghost use Rattle.hull.specs.Words.{word_of, Census};
 
 use super::records::HullState;
-use super::rings::Ring;
-use cc::faults::Fault;
-
-impl Ring {
-    // Writes the ring at the front of the list.
-    pub(crate) fn copy_to(&self, list: &mut [usize]) -> Result<usize, Fault>
-        ensures copied { Copied (listed self.now) list.old list.new result }
-    {
-        let n = self.marks.len();
-        if list.len() < n {
-            return Err(Fault::Tight(n));
-        }
-        list[..n].copy_from_slice(&self.marks);
-        Ok(n)
-    }
-}
 
 impl HullState {
     // The 64 marks from `base` on, as bits.

@@ -8,7 +8,7 @@ use Rattle.hull.proofs.histories.replay.Goals as goal
 
 pub loop-call-preserved : goal.loop-call-preserved
 loop-call-preserved g c =
-    let m = g.S.CcSystem.meaning c.args.hull.now.system in
+    let m = g.S.CcSystem.meaning c.args.system in
     let calls = c.args.calls.now in
     let i = c.loop-call.call-index in
     let old = c.loop-call.hull in

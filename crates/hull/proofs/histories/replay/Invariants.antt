@@ -5,5 +5,4 @@ use Rattle.hull.proofs.histories.replay.Given as goal
 
 abbrev pub invariant-loop-call : goal.invariant-loop-call
 invariant-loop-call g l =
-    (l.hull.system ≡ l.initial.hull.system)
-    × Ran (g.S.CcSystem.meaning l.initial.hull.system) (history (take l.call-index l.calls) (vec_items l.answers)) (held l.hull.state.records)
+    (l.hull.system ≡ l.fn.system) × Ran (g.S.CcSystem.meaning l.fn.system) (history (take l.call-index l.calls) (vec_items l.answers)) (held l.hull.state.records)
