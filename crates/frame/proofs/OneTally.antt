@@ -8,7 +8,7 @@ use Rattle.sheet.specs.Sheets.{Value}
 use Rattle.sheet.specs.declared.Kind.{Kind}
 use Rattle.reports.proofs.OneSheet.{not_refused, same_sheet}
 use Rattle.reports.proofs.OneReport.{accepted_lawful, not_judged}
-use Rattle.shell.specs.Dialogues.{call_of}
+use Rattle.shell.specs.Calls.{call_of}
 use Rattle.shell.specs.declared.commands.Verb.{Verb}
 use Rattle.shell.specs.declared.commands.Verb.TheVariants.{Add, Drop, Place, Neighbours, Outline, Rounds}
 use Rattle.frame.proofs.Sameness.{called_marks, called_same, same_self}

@@ -8,7 +8,7 @@ use Rattle.hull.specs.Histories.{Called}
 use Rattle.sheet.specs.Sheets.{Declines, Holds, Lists, Value}
 use Rattle.sheet.specs.declared.Kind.{Kind}
 use Rattle.opening.specs.Opening.{Judged, system}
-use Rattle.shell.specs.Dialogues.{call_of}
+use Rattle.shell.specs.Calls.{call_of}
 use Rattle.shell.specs.declared.commands.Verb.{Verb}
 use Rattle.shell.specs.declared.commands.Verb.TheVariants.{Add, Drop, Place, Neighbours, Outline, Rounds}
 
@@ -35,12 +35,6 @@ worth (declined f l) = number f
 -- modulo 2^64
 abbrev pub wrapped : ℕ → ℕ
 wrapped n = n % 18446744073709551616
-
--- a call was made, and n is what its answer is worth
-pub record Valued (m : Meaning) (s t : ℕ → Bool) (v : Verb) (k n : ℕ) : Type 0 where
-  pub answer : Answer
-  pub called : Called m s t (call_of v k) answer
-  pub value : n ≡ wrapped (worth answer)
 
 -- the calls, made one after another where s has the marks that are in, are worth so much: a pair is a letter and a number; a pair with no
 -- letter is passed over, and so is a last byte with no partner

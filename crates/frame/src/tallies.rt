@@ -1,18 +1,18 @@
 //! Calls that are pairs of bytes, and what their answers are worth, added up.
 
-ghost use Rattle.std.specs.Prelude.{◌≡◌, ℕ, false, ◌≢◌, MatchOption};
-ghost use Rattle.hull.specs.Records.{held};
+ghost use Rattle.std.specs.Prelude.{◌≡◌, ◌≢◌, MatchOption};
 ghost use Rattle.frame.specs.Tallies.{Tally, Total, Totals, letter};
 
-use super::answers::of_call;
+use super::answers::worth;
 use cc::CcSystem;
 use hull::hulls::DynamicHull;
 use opening::open;
 use sheet::Room;
-use shell::commands::Verb;
+use shell::calls::make;
+use shell::commands::{Call, Verb};
 
 // The call that a letter means.
-// stays a function: the letters are this tally's, and `Verb` is another crate's
+// stays a function: the letters are this tally's alone, and `Verb` is another crate's, so a `TryFrom` cannot stand here
 fn verb_of(byte: u8) -> Option<Verb>
     ensures { MatchOption result ((v : Verb) → byte ≢ letter v) (λ v. byte ≡ letter v) }
 {
@@ -27,22 +27,23 @@ fn verb_of(byte: u8) -> Option<Verb>
     }
 }
 
-// Makes the calls on an unused hull, and adds up what the answers are worth.
-fn tally_once<S: CcSystem>(hull: &mut DynamicHull<S>, calls: &[u8]) -> usize
-    requires unused { (p : ℕ) → held hull.old.state.records p ≡ false }
-    ensures total { Total (S.CcSystem.meaning hull.old.system) calls.now result }
-    ensures system { hull.new.system ≡ hull.old.system }
+// Makes the calls on an unused hull over the system, and adds up what the answers are worth; gives the system back with the sum.
+fn tally_once<S: CcSystem + Drop>(system: S, calls: &[u8]) -> (S, usize)
+    ensures system { result.0 ≡ system }
+    ensures total { Total (S.CcSystem.meaning system) calls.now result.1 }
 {
+    let mut hull = DynamicHull::over(system);
     let mut total = 0usize;
-    let mut rest = calls;
-    // stays a loop over a pattern: it says that calls are pairs, and passes over an odd byte
-    while let [byte, number, after @ ..] = rest {
-        if let Some(verb) = verb_of(*byte) {
-            total = total.wrapping_add(of_call(hull, verb, usize::from(*number)));
-        }
-        rest = after;
+    let (pairs, _odd) = calls.as_chunks::<2>();
+    for [letter, number] in pairs {
+        let Some(verb) = verb_of(*letter) else {
+            continue;
+        };
+        let number = usize::from(*number);
+        let answer = make(&mut hull, Call { verb, number });
+        total = total.wrapping_add(worth(&answer));
     }
-    total
+    (hull.take_off(), total)
 }
 
 // Makes the calls so many times, each time on an unused hull over the system, and adds up what the answers are worth.
@@ -52,9 +53,9 @@ fn tally_over<S: CcSystem + Drop>(system: S, calls: &[u8], times: usize) -> usiz
     let mut below = system;
     let mut total = 0usize;
     for _time in 0..times {
-        let mut hull = DynamicHull::over(below);
-        total = total.wrapping_add(tally_once(&mut hull, calls));
-        below = hull.take_off();
+        let (system, once) = tally_once(below, calls);
+        below = system;
+        total = total.wrapping_add(once);
     }
     total
 }

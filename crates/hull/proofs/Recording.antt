@@ -19,7 +19,6 @@ use Rattle.hull.specs.declared.histories.Question.TheVariants.{Place, Neighbours
 use Rattle.hull.specs.declared.histories.Call.{Call}
 use Rattle.hull.specs.declared.histories.Answer.{Answer}
 use Rattle.hull.specs.declared.histories.Reply.{Reply}
-use Rattle.hull.specs.declared.histories.Reply.TheVariants.{Added as WasAdded, Dropped as WasDropped}
 use Rattle.hull.specs.Records.{held}
 use Rattle.hull.specs.Replies.{added_answer, dropped_answer}
 use Rattle.hull.specs.Histories.{question_of, call_of, told, answer_of, history, Moved, comes, goes, declines, asks, Called, Ran, Compared}
@@ -36,16 +35,12 @@ module _ (x : ℕ) (old new : HullState) where
   dropped_moved (Ok n) h = goes h
   dropped_moved (Err f) h = declines (ap (λ (s : HullState). held s.records) (sym h))
 
--- what is recorded of an add and of a drop
-pub added_told : (r : Result Added Fault) (reply : Result Reply Fault) → MatchResult r (λ a. IsOkAnd reply (λ q. q ≡ WasAdded a)) (λ f. reply ≡ Err f) → told reply [] ≡ added_answer r
-added_told (Ok a) (Ok q) h = ap (λ (q : Reply). told (Ok q) []) h
-added_told (Ok a) (Err f) h = absurd h
-added_told (Err f) reply h = ap (λ (r : Result Reply Fault). told r []) h
-
-pub dropped_told : (r : Result ℕ Fault) (reply : Result Reply Fault) → MatchResult r (λ n. IsOkAnd reply (λ q. q ≡ WasDropped n)) (λ f. reply ≡ Err f) → told reply [] ≡ dropped_answer r
-dropped_told (Ok n) (Ok q) h = ap (λ (q : Reply). told (Ok q) []) h
-dropped_told (Ok n) (Err f) h = absurd h
-dropped_told (Err f) reply h = ap (λ (r : Result Reply Fault). told r []) h
+-- what is told of an answer that becomes a reply
+pub told_by : {A : Type 0} (of : A → Reply) (answer : Result A Fault → TheAnswer) (l : List ℕ) → ((a : A) → told (Ok (of a)) l ≡ answer (Ok a)) → ((f : Fault) → told (Err f) l ≡ answer (Err f))
+    → (r : Result A Fault) (reply : Result Reply Fault) → MatchResult r (λ a. IsOkAnd reply (λ q. q ≡ of a)) (λ f. reply ≡ Err f) → told reply l ≡ answer r
+told_by of answer l ok err (Ok a) (Ok q) h = ap (λ (q : Reply). told (Ok q) l) h ∙ ok a
+told_by of answer l ok err (Ok a) (Err f) h = absurd h
+told_by of answer l ok err (Err f) reply h = ap (λ (r : Result Reply Fault). told r l) h ∙ err f
 
 pub is_question : (q : Question) → IsQuestion (question_of q)
 is_question (Place x) = place?

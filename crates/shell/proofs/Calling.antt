@@ -29,14 +29,14 @@ word_lacks Rounds = lacks_by 32 (name Rounds) tt
 
 -- a line without a space is no call but the census
 pub no_space : (bs : List ℕ) → (bs ≡ codes "census" → ⊥) → Lacks 32 bs → (c : Command) → Fits c → bs ≡ written c → ⊥
-no_space bs none l (Call v n) wide is = lacks_not 32 (name v) (decimal n) (subst (Lacks 32) is l)
+no_space bs none l (Call c) wide is = lacks_not 32 (name c.verb) (decimal c.number) (subst (Lacks 32) is l)
 no_space bs none l Census u is = none is
 
 -- a line with one is a call where its parts are a word and a number
 pub no_parts : (bs w d : List ℕ) → (bs ≡ codes "census" → ⊥) → Lacks 32 w × (bs ≡ w ++ 32 ∷ d) → ((v : Verb) (n : ℕ) → Wide n → w ≡ name v → d ≡ decimal n → ⊥) → (c : Command) → Fits c → bs ≡ written c → ⊥
-no_parts bs w d none cut parts (Call v n) wide is =
-    let e = cut_unique 32 w d (name v) (decimal n) cut.0 (word_lacks v) (sym cut.1 ∙ is) in
-    parts v n wide e.0 e.1
+no_parts bs w d none cut parts (Call c) wide is =
+    let e = cut_unique 32 w d (name c.verb) (decimal c.number) cut.0 (word_lacks c.verb) (sym cut.1 ∙ is) in
+    parts c.verb c.number wide e.0 e.1
 no_parts bs w d none cut parts Census u is = none is
 
 -- all the calls, in the order of their list

@@ -19,10 +19,10 @@ abbrev pub Wide : ℕ → Type 0
 Wide n = n < 18446744073709551616
 
 abbrev pub written : Command → List ℕ
-written (Call v n) = name v ++ 32 ∷ decimal n
+written (Call c) = name c.verb ++ 32 ∷ decimal c.number
 written Census = codes "census"
 
 -- its number has 64 bits
 abbrev pub Fits : Command → Type 0
-Fits (Call v n) = Wide n
+Fits (Call c) = Wide c.number
 Fits Census = Unit {0}

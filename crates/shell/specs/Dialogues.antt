@@ -1,47 +1,28 @@
 -- What the shell prints for a script: the lines of it one after another, each with what is printed for it.
-use Rattle.std.specs.Prelude.{◌≡◌, ℕ, ◌+◌, min, Bool, ◌≢◌, List, [], ◌∷◌, ◌++◌, replicate, codes}
+use Rattle.std.specs.Prelude.{◌≡◌, ℕ, ◌+◌, Bool, ◌≢◌, List, [], ◌∷◌, ◌++◌, codes}
 use Rattle.laws.specs.Systems.{Meaning}
-use Rattle.runs.specs.Calls.{Answer, add, drop, place, neighbours, outline, rounds}
-use Rattle.runs.specs.Calls.{Call as TheCall}
+use Rattle.runs.specs.Calls.{Answer}
 use Rattle.hull.specs.Histories.{Called}
 use Rattle.hull.specs.Words.{Census as Counted}
 use Rattle.sheet.specs.Fields.{Lacks}
-use Rattle.shell.specs.Commands.{Fits, Wide, name, written}
+use Rattle.shell.specs.Commands.{Fits, name, written}
 use Rattle.cc.specs.Texts.{tabbed}
 use Rattle.shell.specs.Texts.{shown}
-use Rattle.shell.specs.declared.commands.Verb.{Verb}
-use Rattle.shell.specs.declared.commands.Verb.TheVariants.{Add, Drop, Place, Neighbours, Outline, Rounds}
+use Rattle.shell.specs.Calls.{meant}
+use Rattle.shell.specs.declared.commands.Call.{Call as CallWith}
 use Rattle.shell.specs.declared.commands.Command.{Command}
 use Rattle.shell.specs.declared.commands.Command.TheVariants.{Call, Census}
 
--- the list that is handed over: as many zeros as there is room for, but no more than 128, since no system has more marks
-abbrev pub handed : ℕ → List ℕ
-handed room = replicate (min room 128) 0
-
-abbrev pub call_of : Verb → ℕ → TheCall
-call_of Add x = add x
-call_of Drop x = drop x
-call_of Place x = place x
-call_of Neighbours x = neighbours x
-call_of Outline room = outline (handed room)
-call_of Rounds room = rounds (handed room)
-
--- a call was made: the defined answer is added to the text, and the marks s that were in have become t
-pub record Answered (m : Meaning) (s t : ℕ → Bool) (v : Verb) (k : ℕ) (before after : List ℕ) : Type 0 where
-  pub answer : Answer
-  pub called : Called m s t (call_of v k) answer
-  pub text : after ≡ before ++ shown m.count v answer
-
 -- a call was made, and the line that answers it is added to the text
-pub record CalledLine (m : Meaning) (s t : ℕ → Bool) (v : Verb) (k : ℕ) (before after : List ℕ) : Type 0 where
+pub record CalledLine (m : Meaning) (s t : ℕ → Bool) (c : CallWith) (before after : List ℕ) : Type 0 where
   pub answer : Answer
-  pub called : Called m s t (call_of v k) answer
-  pub text : after ≡ before ++ ((name v ++ tabbed (k ∷ [])) ++ (shown m.count v answer ++ 10 ∷ []))
+  pub called : Called m s t (meant c) answer
+  pub text : after ≡ before ++ ((name c.verb ++ tabbed (c.number ∷ [])) ++ (shown m.count c.verb answer ++ 10 ∷ []))
 
 -- what is printed for the n-th line of a script: the words of the call and its answer, or a question mark and n
 pub data Exchange (m : Meaning) (s t : ℕ → Bool) (n : ℕ) (line : List ℕ) : List ℕ → Type 0 where
-  calls : (v : Verb) (k : ℕ) (a : Answer) → Wide k → line ≡ written (Call v k) → Called m s t (call_of v k) a
-      → Exchange m s t n line ((name v ++ tabbed (k ∷ [])) ++ (shown m.count v a ++ 10 ∷ []))
+  calls : (c : CallWith) (a : Answer) → Fits (Call c) → line ≡ written (Call c) → Called m s t (meant c) a
+      → Exchange m s t n line ((name c.verb ++ tabbed (c.number ∷ [])) ++ (shown m.count c.verb a ++ 10 ∷ []))
   counts : (r : ℕ × ℕ × ℕ) → line ≡ written Census → Counted s r → s ≡ t → Exchange m s t n line ((codes "census" ++ tabbed (r.0 ∷ r.1 ∷ r.2 ∷ [])) ++ 10 ∷ [])
   no_call : ((c : Command) → Fits c → line ≢ written c) → s ≡ t → Exchange m s t n line ((codes "?" ++ tabbed (n ∷ [])) ++ 10 ∷ [])
 

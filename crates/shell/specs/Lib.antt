@@ -1,5 +1,6 @@
 pub mod Commands
 pub mod Texts
+pub mod Calls
 pub mod Dialogues
 pub mod Layered
 pub mod Consoles

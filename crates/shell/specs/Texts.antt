@@ -2,6 +2,8 @@
 use Rattle.std.specs.Prelude.{ℕ, List, [], ◌∷◌, ◌++◌, take, codes}
 use Rattle.cc.specs.Texts.{refused, tabbed}
 use Rattle.runs.specs.Calls.{Side, edge, inside, Answer, added, dropped, at, within, beside, wrote, declined}
+use Rattle.hull.specs.declared.histories.Reply.{Reply}
+use Rattle.hull.specs.declared.histories.Reply.TheVariants.{Added, Dropped, Placed, Beside, Wrote}
 use Rattle.shell.specs.declared.commands.Verb.{Verb}
 use Rattle.shell.specs.declared.commands.Verb.TheVariants.{Add, Drop, Place, Neighbours, Outline, Rounds}
 
@@ -17,6 +19,14 @@ entries Place count n = n
 entries Neighbours count n = n
 entries Outline count n = n
 entries Rounds count n = count
+
+-- the same by a reply: none of the list is shown but where the call wrote into it
+abbrev pub entries_of : Verb → ℕ → Reply → ℕ
+entries_of v count (Added a) = 0
+entries_of v count (Dropped n) = 0
+entries_of v count (Placed p) = 0
+entries_of v count (Beside a b) = 0
+entries_of v count (Wrote n) = entries v count n
 
 -- the fields of an answer, each after a tab; count is the system's
 abbrev pub shown : ℕ → Verb → Answer → List ℕ

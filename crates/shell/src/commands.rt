@@ -28,10 +28,17 @@ const VERBS: [Verb; 6] = [
     Verb::Rounds,
 ];
 
+// A call with its number.
+#[derive(Clone, Copy, PartialEq, Eq, Debug)]
+pub struct Call {
+    pub verb: Verb,
+    pub number: usize,
+}
+
 // What a line asks for.
 #[derive(Clone, Copy, PartialEq, Eq, Debug)]
 pub enum Command {
-    Call(Verb, usize),
+    Call(Call),
     Census,
 }
 
@@ -83,6 +90,8 @@ pub fn parse(line: &[u8]) -> Option<Command>
         return Some(Command::Census);
     }
     let (word, digits) = cut(line, b' ')?;
-    let verb = verb_of(word)?;
-    Some(Command::Call(verb, number(digits, usize::MAX)?))
+    Some(Command::Call(Call {
+        verb: verb_of(word)?,
+        number: number(digits, usize::MAX)?,
+    }))
 }

@@ -4,8 +4,9 @@ ghost use Rattle.std.specs.Prelude.{◌≡◌, false, [], IfOk, string_bytes, Ma
 ghost use Rattle.hull.specs.Records.{held};
 ghost use Rattle.shell.specs.Dialogues.{Begins, CalledLine, Dialogue, Exchanged};
 
-use super::answers::answer_call;
-use super::commands::{Command, Verb, parse};
+use super::answers::put_answer;
+use super::calls::make;
+use super::commands::{Call, Command, parse};
 use cc::CcSystem;
 use hull::hulls::DynamicHull;
 use sheet::numbers::cut;
@@ -29,14 +30,15 @@ fn next_line(text: &[u8]) -> Option<(&[u8], &[u8])>
 fn call_line<S: CcSystem>(
     out: &mut String,
     hull: &mut DynamicHull<S>,
-    verb: Verb,
-    number: usize,
+    call: Call,
 ) -> Result<(), AllocError>
-    ensures called { OnOk result (CalledLine (S.CcSystem.meaning hull.old.system) (held hull.old.state.records) (held hull.new.state.records) verb number (string_bytes out.old) (string_bytes out.new)) }
+    ensures called { OnOk result (CalledLine (S.CcSystem.meaning hull.old.system) (held hull.old.state.records) (held hull.new.state.records) call (string_bytes out.old) (string_bytes out.new)) }
     ensures system { hull.new.system ≡ hull.old.system }
 {
+    let Call { verb, number } = call;
+    let answer = make(hull, call);
     write!(out, "{verb}\t{number}")?;
-    answer_call(out, hull, verb, number)?;
+    put_answer(out, verb, hull.count(), &answer)?;
     out.push_str("\n")
 }
 
@@ -54,7 +56,7 @@ fn exchange<S: CcSystem>(
         return writeln!(out, "?\t{number}");
     };
     match command {
-        Command::Call(verb, k) => call_line(out, hull, verb, k),
+        Command::Call(call) => call_line(out, hull, call),
         Command::Census => {
             let (low, high, size) = hull.census();
             writeln!(out, "census\t{low}\t{high}\t{size}")

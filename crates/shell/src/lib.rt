@@ -3,6 +3,7 @@
 #![tactic(auto)]
 
 mod answers;
+pub mod calls;
 pub mod commands;
 pub mod dialogues;
 pub mod layers;

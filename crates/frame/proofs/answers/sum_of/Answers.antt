@@ -1,14 +1,12 @@
-use Rattle.std.proofs.Common.{◌+◌, sum, ap, ◌∙◌, arith}
-use Rattle.std.proofs.lemmas.List.{take_all}
-use Rattle.frame.specs.Tallies.{wrapped}
-use Rattle.frame.proofs.Counting.{sum_more}
+use Rattle.std.proofs.Common.{◌≡◌, fold, rules, tests, ◌∙◌}
+use Rattle.std.proofs.lemmas.Iterator.Consumers.{fold_from_yields_List}
+use Rattle.std.proofs.lemmas.Iterator.{YieldsList-from_slice}
+use Rattle.frame.proofs.Counting.{with_value, sum_folded}
 use Rattle.frame.proofs.answers.sum_of.Goals as goal
 
-pub loop-value-init : goal.loop-value-init
-loop-value-init c = omega arith
-
-pub loop-value-preserved : goal.loop-value-preserved
-loop-value-preserved c = sum_more c.args.first c.loop-value.all c.loop-value.value-index c.args.list.now c.loop-value-test.true c.loop-value.invariant
-
 pub returns : goal.returns
-returns c = record { sum = c.loop-value.invariant ∙ ap (λ l. wrapped (c.args.first + sum l)) (take_all c.loop-value.value-index c.args.list.now c.loop-value-test.false) }
+returns c =
+    let list = c.args.list.now in
+    let folded : c.fold.result ≡ fold with_value c.args.first list =
+    fold_from_yields_List _ with_value c.args.first c.fold.result c.fold.ensures.ran (YieldsList-from_slice list c.iter.ensures.rest) (λ w r v q k. search (rules, tests)) in
+    record { sum = folded ∙ sum_folded list c.args.first c.ranges.first.fits }

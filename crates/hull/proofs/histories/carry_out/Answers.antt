@@ -1,9 +1,10 @@
-use Rattle.std.proofs.Common.{refl, ap, ◌∙◌}
+use Rattle.std.proofs.Common.{[], refl, ap, ◌∙◌}
 use Rattle.runs.specs.Calls.{add, drop}
+use Rattle.hull.specs.declared.histories.Reply.TheVariants.{Added as WasAdded, Dropped as WasDropped}
 use Rattle.hull.specs.Records.{held}
 use Rattle.hull.specs.Replies.{added_answer, dropped_answer}
 use Rattle.hull.specs.Histories.{call_of, question_of, told, answer_of, asks}
-use Rattle.hull.proofs.Recording.{added_moved, dropped_moved, added_told, dropped_told, is_question, called_by, made_so}
+use Rattle.hull.proofs.Recording.{added_moved, dropped_moved, told_by, is_question, called_by, made_so}
 use Rattle.hull.proofs.histories.carry_out.Goals as goal
 
 pub returns-in-Add-clause-called : goal.returns-in-Add-clause-called
@@ -12,7 +13,7 @@ returns-in-Add-clause-called g c =
     let new = c.add.new.self in
     let x = c.in-Add.mark in
     called_by (g.S.CcSystem.meaning old.system) (held old.state.records) (held new.state.records) (add x) (call_of c.args.call.now) (added_answer c.add.result) _
-    (ap call_of c.in-Add.is) (ap (told c.map.result) c.new.ensures.items ∙ added_told c.add.result c.map.result c.map.ensures.cases) c.add.ensures.answer
+    (ap call_of c.in-Add.is) (ap (told c.map.result) c.new.ensures.items ∙ told_by WasAdded added_answer [] (λ a. refl) (λ f. refl) c.add.result c.map.result c.map.ensures.cases) c.add.ensures.answer
     (added_moved x old.state new.state c.add.result c.add.ensures.marks)
 
 pub returns-in-Drop-clause-called : goal.returns-in-Drop-clause-called
@@ -21,7 +22,7 @@ returns-in-Drop-clause-called g c =
     let new = c.drop.new.self in
     let x = c.in-Drop.mark in
     called_by (g.S.CcSystem.meaning old.system) (held old.state.records) (held new.state.records) (drop x) (call_of c.args.call.now) (dropped_answer c.drop.result) _
-    (ap call_of c.in-Drop.is) (ap (told c.map-in-Drop.result) c.new-in-Drop.ensures.items ∙ dropped_told c.drop.result c.map-in-Drop.result c.map-in-Drop.ensures.cases) c.drop.ensures.answer
+    (ap call_of c.in-Drop.is) (ap (told c.map-in-Drop.result) c.new-in-Drop.ensures.items ∙ told_by WasDropped dropped_answer [] (λ n. refl) (λ f. refl) c.drop.result c.map-in-Drop.result c.map-in-Drop.ensures.cases) c.drop.ensures.answer
     (dropped_moved x old.state new.state c.drop.result c.drop.ensures.marks)
 
 pub returns-in-Ask-clause-called : goal.returns-in-Ask-clause-called

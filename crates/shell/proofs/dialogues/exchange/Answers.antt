@@ -12,7 +12,7 @@ returns-in_default-clause-exchanged g c =
 pub returns-in-Call-clause-exchanged : goal.returns-in-Call-clause-exchanged
 returns-in-Call-clause-exchanged g c =
     let told = subst (λ (d : Command). Fits d × (c.args.line.now ≡ written d)) c.in-Call.is c.in-Some.ensures.command in
-    made_so c.call_line.result (λ _ e. record { printed = _; exchange = calls c.in-Call.verb c.in-Call.k e.answer told.0 told.1 e.called; text = e.text }) c.call_line.ensures.called
+    made_so c.call_line.result (λ _ e. record { printed = _; exchange = calls c.in-Call.call e.answer told.0 told.1 e.called; text = e.text }) c.call_line.ensures.called
 
 pub returns-in-Census-clause-exchanged : goal.returns-in-Census-clause-exchanged
 returns-in-Census-clause-exchanged g c =
