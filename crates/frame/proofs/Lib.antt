@@ -1,4 +1,5 @@
 pub mod Counting
+pub mod Copying
 pub mod Opening
 pub mod Sameness
 pub mod OneTally

@@ -23,6 +23,7 @@ ghost use Rattle.shell.specs.Consoles.{Console};
 ghost use Rattle.frame.specs.Handing.{Copied, Handed};
 ghost use Rattle.frame.specs.Tallies.{OneTally, Tally};
 
+use cc::lists::copy_front;
 use reports::report;
 use shell::console;
 use std::alloc::Global;
@@ -32,11 +33,8 @@ use tallies::tally;
 fn copy(text: &[u8], out: &mut [u8]) -> usize
     ensures copied { Copied text.now out.old result out.new }
 {
-    let length = text.len();
-    if length <= out.len() {
-        out[..length].copy_from_slice(text);
-    }
-    length
+    let _ = copy_front(text, out);
+    text.len()
 }
 
 // Writes the report of a sheet's text.

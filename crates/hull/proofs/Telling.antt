@@ -6,7 +6,7 @@ use Rattle.laws.specs.Systems.{Meaning}
 use Rattle.laws.specs.Outlines.{none}
 use Rattle.cc.specs.declared.faults.Fault.{Fault}
 use Rattle.cc.specs.declared.faults.Fault.TheVariants.{Tight}
-use Rattle.runs.specs.Calls.{Call, Asks, to_add, NeedsIn, RingOf, Rounds, Answers, add, outline, rounds, stranger, already_in, absent, wrote, declined, reads, counts, tight_ring, tight_rounds}
+use Rattle.runs.specs.Calls.{Call, Answer, Asks, to_add, NeedsIn, RingOf, Rounds, Answers, add, outline, rounds, stranger, already_in, absent, wrote, declined, reads, counts, tight_ring, tight_rounds}
 use Rattle.hull.specs.declared.records.Record.{Record}
 use Rattle.hull.specs.Records.{held, Sound}
 use Rattle.cc.specs.Lists.{Copied}
@@ -34,23 +34,24 @@ module _ {m : Meaning} {s : ℕ → Bool} where
   pub tight_by : (before : List ℕ) (n : ℕ) → n ≡ m.count → length before < n → Answers m s (rounds before) (declined (Tight n) before)
   tight_by before n e lt = subst (λ k. Answers m s (rounds before) (declined (Tight k) before)) (sym e) (tight_rounds (subst (λ k. length before < k) e lt))
 
--- a mark that may not be added, or that is not in
-module _ (m : Meaning) (s : ℕ → Bool) (x : ℕ) (f : Fault) where
-  pub not_admitted : Admits m s x (Err f) → Answers m s (add x) (declined f [])
-  not_admitted (far, inn) =
-      elim (dec_lt x m.count) [
+-- the error of a `?` is the fault that came: what is answered then where a mark may not be added, or is not in
+module _ (m : Meaning) (s : ℕ → Bool) (x : ℕ) {X : Type 0} (answer : Result X Fault → Answer) (declines : (f : Fault) → answer (Err f) ≡ declined f []) where
+  declined_by : (c : Call) (r : Result X Fault) (f : Fault) → IsErrAnd r (λ e. e ≡ f) → Answers m s c (declined f []) → Answers m s c (answer r)
+  declined_by c (Ok x) f e h = absurd e
+  declined_by c (Err g) f e h = subst (Answers m s c) (sym (declines g)) (subst (λ g. Answers m s c (declined g [])) (sym e) h)
+
+  pub not_admitted : (r : Result X Fault) (f : Fault) → IsErrAnd r (λ e. e ≡ f) → Admits m s x (Err f) → Answers m s (add x) (answer r)
+  not_admitted r f is (far, inn) =
+      declined_by (add x) r f is
+      (elim (dec_lt x m.count) [
         | yes h ↦ let (i, e) = inn h in subst (λ g. Answers m s (add x) (declined g [])) (sym e) (already_in h (subst T (sym i) tt))
         | no h ↦ subst (λ g. Answers m s (add x) (declined g [])) (sym (far (omega arith))) (stranger to_add (omega arith))
-      ]
+      ])
 
-  pub not_held : {c : Call} → Asks c x → NeedsIn c x → Holds m s x (Err f) → Answers m s c (declined f [])
-  not_held {c} asks needs (far, out) =
-      elim (dec_lt x m.count) [
+  pub not_held : {c : Call} → Asks c x → NeedsIn c x → (r : Result X Fault) (f : Fault) → IsErrAnd r (λ e. e ≡ f) → Holds m s x (Err f) → Answers m s c (answer r)
+  not_held {c} asks needs r f is (far, out) =
+      declined_by c r f is
+      (elim (dec_lt x m.count) [
         | yes h ↦ let (i, e) = out h in subst (λ g. Answers m s c (declined g [])) (sym e) (absent needs h (λ k. subst T i k))
         | no h ↦ subst (λ g. Answers m s c (declined g [])) (sym (far (omega arith))) (stranger asks (omega arith))
-      ]
-
--- the error of a `?` is the fault that came
-pub refused : {X : Type 0} (r : Result X Fault) (f : Fault) → IsErrAnd r (λ e. e ≡ f) → r ≡ Err f
-refused (Ok x) f h = absurd h
-refused (Err e) f h = ap Err h
+      ])

@@ -5,17 +5,12 @@ use Rattle.hull.specs.Records.{held, Sound}
 use Rattle.hull.specs.Replies.{added_answer}
 use Rattle.runs.proofs.Decided.{more_marks}
 use Rattle.runs.proofs.SomeAnswer.{with_it}
-use Rattle.hull.proofs.Telling.{not_admitted, refused}
+use Rattle.hull.proofs.Telling.{not_admitted}
 use Rattle.hull.proofs.Changes.{recorded, held_added, sound_added, adds_by}
 use Rattle.hull.proofs.hulls.DynamicHull.add.Goals as goal
 
 pub returns-in_err-admits-clause-answer : goal.returns-in_err-admits-clause-answer
-returns-in_err-admits-clause-answer g c =
-    let h = c.args.self.now in
-    let m = g.S.CcSystem.meaning h.system in
-    let s = held h.state.records in
-    let f = c.in_err-admits.field-0.0 in
-    subst (λ r. Answers m s (add c.args.m) (added_answer r)) (sym (refused c.from_residual.result f c.from_residual.ensures.1)) (not_admitted m s c.args.m f c.in_err-admits.ensures.admits)
+returns-in_err-admits-clause-answer g c = let h = c.args.self.now in not_admitted (g.S.CcSystem.meaning h.system) (held h.state.records) c.args.m added_answer (λ f. refl) c.from_residual.result c.in_err-admits.field-0.0 c.from_residual.ensures.1 c.in_err-admits.ensures.admits
 
 pub settle-requires : goal.settle-requires
 settle-requires g c =

@@ -6,17 +6,12 @@ use Rattle.hull.specs.Rings.{listed}
 use Rattle.hull.specs.Records.{held, Sound}
 use Rattle.hull.specs.declared.rings.Ring.{Ring}
 use Rattle.hull.specs.Replies.{Exchanged, dropped_answer}
-use Rattle.hull.proofs.Telling.{not_held, refused}
+use Rattle.hull.proofs.Telling.{not_held}
 use Rattle.hull.proofs.Changes.{recorded, held_dropped, sound_dropped, drops_by}
 use Rattle.hull.proofs.hulls.DynamicHull.drop.Goals as goal
 
 pub returns-in_err-holds-clause-answer : goal.returns-in_err-holds-clause-answer
-returns-in_err-holds-clause-answer g c =
-    let h = c.args.self.now in
-    let m = g.S.CcSystem.meaning h.system in
-    let s = held h.state.records in
-    let f = c.in_err-holds.field-0.0 in
-    subst (λ r. Answers m s (drop c.args.m) (dropped_answer r)) (sym (refused c.from_residual.result f c.from_residual.ensures.1)) (not_held m s c.args.m f to_drop of_drop c.in_err-holds.ensures.holds)
+returns-in_err-holds-clause-answer g c = let h = c.args.self.now in not_held (g.S.CcSystem.meaning h.system) (held h.state.records) c.args.m dropped_answer (λ f. refl) to_drop of_drop c.from_residual.result c.in_err-holds.field-0.0 c.from_residual.ensures.1 c.in_err-holds.ensures.holds
 
 pub settle-requires : goal.settle-requires
 settle-requires g c =

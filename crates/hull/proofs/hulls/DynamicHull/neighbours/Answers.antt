@@ -1,22 +1,14 @@
-use Rattle.std.proofs.Common.{T, sym, ◌∙◌, subst, subst₂}
+use Rattle.std.proofs.Common.{refl, T, sym, ◌∙◌, subst, subst₂}
 use Rattle.runs.specs.Calls.{Answers, neighbours, beside, to_neighbours, of_neighbours, has_beside, off_the_edge}
 use Rattle.runs.proofs.SomeAnswer.{before_on, after_on}
 use Rattle.hull.specs.Rings.{listed}
 use Rattle.hull.specs.Records.{held}
 use Rattle.hull.specs.Replies.{neighbours_answer}
-use Rattle.hull.proofs.Telling.{not_held, refused}
+use Rattle.hull.proofs.Telling.{not_held}
 use Rattle.hull.proofs.hulls.DynamicHull.neighbours.Goals as goal
 
 pub returns-in_err-holds : goal.returns-in_err-holds
-returns-in_err-holds g c =
-    let h = c.args.self.now in
-    let m = g.S.CcSystem.meaning h.system in
-    let s = held h.state.records in
-    let f = c.in_err-holds.field-0.0 in
-    record {
-      answer = subst (λ r. Answers m s (neighbours c.args.m) (neighbours_answer r)) (sym (refused c.from_residual.result f c.from_residual.ensures.1))
-          (not_held m s c.args.m f to_neighbours of_neighbours c.in_err-holds.ensures.holds);
-    }
+returns-in_err-holds g c = let h = c.args.self.now in record { answer = not_held (g.S.CcSystem.meaning h.system) (held h.state.records) c.args.m neighbours_answer (λ f. refl) to_neighbours of_neighbours c.from_residual.result c.in_err-holds.field-0.0 c.from_residual.ensures.1 c.in_err-holds.ensures.holds }
 
 pub returns-in-None : goal.returns-in-None
 returns-in-None g c = record { answer = off_the_edge (subst T (sym c.in_ok-holds.ensures.holds.1) tt) c.args.self.now.sound.is_ring c.in-None.ensures.place }

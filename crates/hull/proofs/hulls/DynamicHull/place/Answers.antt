@@ -1,20 +1,12 @@
-use Rattle.std.proofs.Common.{T, sym, subst}
-use Rattle.runs.specs.Calls.{Answers, place, to_place, of_place, stands, lies}
+use Rattle.std.proofs.Common.{refl, T, sym, subst}
+use Rattle.runs.specs.Calls.{to_place, of_place, stands, lies}
 use Rattle.hull.specs.Records.{held}
 use Rattle.hull.specs.Replies.{placed_answer}
-use Rattle.hull.proofs.Telling.{not_held, refused}
+use Rattle.hull.proofs.Telling.{not_held}
 use Rattle.hull.proofs.hulls.DynamicHull.place.Goals as goal
 
 pub returns-in_err-holds : goal.returns-in_err-holds
-returns-in_err-holds g c =
-    let h = c.args.self.now in
-    let m = g.S.CcSystem.meaning h.system in
-    let s = held h.state.records in
-    let f = c.in_err-holds.field-0.0 in
-    record {
-      answer = subst (λ r. Answers m s (place c.args.m) (placed_answer r)) (sym (refused c.from_residual.result f c.from_residual.ensures.1))
-          (not_held m s c.args.m f to_place of_place c.in_err-holds.ensures.holds);
-    }
+returns-in_err-holds g c = let h = c.args.self.now in record { answer = not_held (g.S.CcSystem.meaning h.system) (held h.state.records) c.args.m placed_answer (λ f. refl) to_place of_place c.from_residual.result c.in_err-holds.field-0.0 c.from_residual.ensures.1 c.in_err-holds.ensures.holds }
 
 pub returns-in-Some : goal.returns-in-Some
 returns-in-Some g c = record { answer = stands c.args.self.now.sound.is_ring c.in-Some.ensures.place.0 c.in-Some.ensures.place.1 }
