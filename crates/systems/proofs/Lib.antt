@@ -2,6 +2,7 @@ mod Bounded
 mod Differences
 mod Signs
 mod GoodLists
+mod Counts
 pub mod OneJudgement
 pub mod OneStarJudgement
 pub mod Judging

@@ -2,7 +2,6 @@
 
 #![tactic(auto)]
 
-mod counts;
 mod geometry;
 pub mod networks;
 mod offsets;

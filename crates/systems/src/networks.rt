@@ -7,11 +7,11 @@ ghost use Rattle.models.proofs.Networked.{network_lawful_few};
 ghost use Rattle.systems.specs.Opened.{Holds};
 ghost use Rattle.systems.specs.Networks.{Judged, Timed, OneJudgement, ThreeWires};
 
-use super::counts::pairs;
 use super::orders::in_order;
 use cc::checks::Checked;
 use cc::faults::Fault;
 use cc::{CcSystem, Turn};
+use models::counts::pairs;
 use std::array;
 
 // The wires, from top to bottom, before the first crossing.

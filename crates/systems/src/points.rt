@@ -11,11 +11,8 @@ use super::orders::are_three;
 use super::searches::first_three;
 use cc::checks::Checked;
 use cc::faults::Fault;
-use cc::{CcSystem, Turn};
+use cc::{CcSystem, LIMIT, Turn};
 use models::places::Place;
-
-// The most places that a list may have.
-const LIMIT: usize = 128;
 
 // A list of places, opened as a system: p, q and r turn left where they stand counterclockwise.
 // Refused, it holds no place, so it has no mark, and tells why.

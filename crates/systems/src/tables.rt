@@ -11,12 +11,12 @@ ghost use Rattle.systems.specs.Orders.{is_left};
 ghost use Rattle.systems.specs.Opened.{Holds};
 ghost use Rattle.systems.specs.Tables.{turn_table, Fits, Judged, OneJudgement, EntriesRise};
 
-use super::counts::{pairs, threes};
 use super::orders::in_order;
 use cc::checks::Checked;
 use cc::faults::Fault;
 use cc::{CcSystem, Turn};
 use models::catalogue::{is_lawful_five, is_lawful_four};
+use models::counts::{pairs, threes};
 
 // The entry of i < j < k among the threes of n marks in rising order.
 fn entry(n: usize, i: usize, j: usize, k: usize) -> usize
