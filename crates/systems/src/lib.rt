@@ -3,6 +3,7 @@
 #![tactic(auto)]
 
 mod geometry;
+mod lengths;
 pub mod networks;
 mod offsets;
 pub mod orders;
