@@ -3,7 +3,7 @@ use Rattle.models.specs.Determinants.{positive}
 use Rattle.models.specs.Places.{plane}
 use Rattle.models.proofs.Plane.{good}
 use Rattle.systems.proofs.Signs.{sided}
-use Rattle.systems.proofs.points.Points.counterclockwise.Goals as goal
+use Rattle.systems.proofs.points.Points.turn_of.Goals as goal
 
 pub determinant-requires : goal.determinant-requires
 determinant-requires c =
@@ -13,6 +13,6 @@ determinant-requires c =
 pub returns : goal.returns
 returns c =
     record {
-      turns = sided (plane c.args.self.now.places.now) c.args.p c.args.q c.args.r c.requires c.determinant.result c.determinant.type_inv
-          (ap positive (sym c.determinant.ensures.exact));
+      told = sided (plane c.args.self.now.places.now) c.args.p c.args.q c.args.r c.requires c.determinant.result c.determinant.type_inv
+          (ap positive (sym c.determinant.ensures.exact)) c.turned.result c.turned.ensures.turned;
     }
