@@ -1,6 +1,6 @@
 //! Reflection networks: a CC system by the crossings of its wires.
 
-ghost use Rattle.std.specs.Prelude.{◌≡◌, ℕ, ◌+◌, ◌*◌, ◌<◌, ◌≤◌, T, ◌↔◌, [], length, Some, None, MatchResult, ◌==◌, slice_index};
+ghost use Rattle.std.specs.Prelude.{◌≡◌, ℕ, ◌+◌, ◌*◌, ◌<◌, ◌≤◌, T, ◌↔◌, [], length, Some, None, MatchResult, ◌==◌, slice_index, slice_index_or};
 ghost use Rattle.models.specs.Threes.{pairs_of};
 ghost use Rattle.models.specs.Networks.{upper, lower, InRange, Network, network, crossing};
 ghost use Rattle.models.proofs.Networked.{network_lawful_few};
@@ -54,19 +54,19 @@ impl<'a> Crossings<'a> {
 
     // Follows the wires through the crossings: the entry at which each pair crosses, in row i at j for i < j,
     // or else why the crossings are no network.
-    fn times(&self) -> Result<[u16; 1024], Fault>
+    fn times(&self) -> Result<[[u16; 32]; 32], Fault>
         requires in_range { (t : ℕ) → t < length self.now.list.now → InRange self.now.count self.now.list.now t }
-        ensures judged { MatchResult result (λ times. Judged self.now.count self.now.list.now None × (length times ≡ 1024) × Timed self.now.count self.now.list.now times) (λ fault. Judged self.now.count self.now.list.now (Some fault)) }
+        ensures judged { MatchResult result (λ times. Judged self.now.count self.now.list.now None × Timed self.now.count self.now.list.now times) (λ fault. Judged self.now.count self.now.list.now (Some fault)) }
     {
         let mut wires = start();
-        let mut times = [0u16; 1024];
+        let mut times = [[0; 32]; 32];
         for (t, k) in self.list.iter().enumerate() {
             let upper = wires[*k];
             let lower = wires[*k + 1];
             if lower <= upper {
                 return Err(Fault::Recrossed(t));
             }
-            times[32 * upper + lower] = t as u16;
+            times[upper][lower] = t as u16;
             wires[*k] = lower;
             wires[*k + 1] = upper;
         }
@@ -80,12 +80,11 @@ impl<'a> Crossings<'a> {
 pub struct ReflectionNetwork<'a> {
     crossings: Crossings<'a>,
     // the entry at which wires i < j cross, in row i at j
-    times: [u16; 1024],
+    times: [[u16; 32]; 32],
     // stays beside what is held: opening cannot fail, and `checked` gives the system or the fault
     fault: Option<Fault>,
     ghost legal: { (t : ℕ) → t < length crossings.list.now → upper crossings.list.now t < lower crossings.list.now t },
-    ghost long: { length times ≡ 1024 },
-    ghost timed: { (i j : ℕ) → i < j → j < crossings.count → T (slice_index times (32 * i + j) == crossing crossings.list.now i j) },
+    ghost timed: { (i j : ℕ) → i < j → j < crossings.count → T (slice_index (slice_index_or times i []) j == crossing crossings.list.now i j) },
 }
 
 impl<'a> ReflectionNetwork<'a> {
@@ -104,7 +103,7 @@ impl<'a> ReflectionNetwork<'a> {
                 count: 0,
                 list: &crossings[..0],
             },
-            times: [0; 1024],
+            times: [[0; 32]; 32],
             fault: Some(fault),
         }
     }
@@ -143,8 +142,8 @@ impl<'a> CcSystem for ReflectionNetwork<'a> {
 
     fn turn(&self, p: usize, q: usize, r: usize) -> Option<Turn> {
         let order = in_order(self.count(), p, q, r)?;
-        let first = self.times[32 * order.low + order.mid];
-        let second = self.times[32 * order.mid + order.high];
+        let first = self.times[order.low][order.mid];
+        let second = self.times[order.mid][order.high];
         Some(order.turn(first < second))
     }
 }
