@@ -6,6 +6,7 @@ mod Counts
 pub mod OneJudgement
 pub mod OneStarJudgement
 pub mod Judging
+mod Passing
 pub mod Lefts
 pub mod Refusing
 pub mod Following
