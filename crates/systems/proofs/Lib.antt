@@ -1,7 +1,5 @@
 mod Bounded
 mod Differences
-mod Signs
-mod GoodLists
 mod Counts
 pub mod OneJudgement
 pub mod OneStarJudgement

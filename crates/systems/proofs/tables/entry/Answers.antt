@@ -16,13 +16,6 @@ counted n i j k x y z few a b c d =
     let e = entry_is n i j k x y z few in
     rw (a', b', c', d') e
 
-pub overflow_sub-result-3 : goal.overflow_sub-result-3
-overflow_sub-result-3 c =
-    let a = c.args in
-    let e = counted a.n a.i a.j a.k c.requires.0 c.requires.1 c.requires.2 c.requires.3
-    c.threes.ensures.number c.pairs.ensures.number c.threes-2.ensures.number refl in
-    omega arith
-
 pub overflow_sub-result-4 : goal.overflow_sub-result-4
 overflow_sub-result-4 c =
     let a = c.args in
