@@ -1,5 +1,5 @@
 -- The entry, by the numbers of pairs and threes.
-use Rattle.std.proofs.Common.{◌≡◌, ℕ, ◌+◌, ◌-◌, ◌<◌, ◌≤◌, min, refl, arith}
+use Rattle.std.proofs.Common.{◌≡◌, ℕ, ◌+◌, ◌-◌, ◌<◌, ◌≤◌, min, arith}
 use Rattle.models.specs.Threes.{place3, pairs_of, threes_of}
 use Rattle.models.proofs.Entries.{entry_is}
 use Rattle.systems.proofs.Counts.{pairs_within, threes_within}

@@ -1,5 +1,5 @@
 -- The wires stand where the crossings so far have taken them, these are legal, and their times are noted.
-use Rattle.std.proofs.Common.{◌≡◌, ℕ, ◌+◌, ◌<◌, [], length, get_or}
+use Rattle.std.proofs.Common.{◌≡◌, ℕ, ◌<◌, [], length, get_or}
 use Rattle.models.specs.Networks.{wire, Legal, crossing}
 use Rattle.systems.proofs.Following.{Rows}
 use Rattle.systems.proofs.networks.Crossings.times.Given as goal
