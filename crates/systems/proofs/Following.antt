@@ -1,44 +1,43 @@
 -- One more crossing: the list of the wires, and the times of the pairs that have crossed.
-use Rattle.std.proofs.Common.{◌≡◌, ℕ, suc, ◌+◌, ◌<◌, ◌≤◌, ◌≢◌, List, [], length, get_or, set, sym, ap, ap₂, ◌∙◌, subst, add-one, arith, length-set, get_or-set_other, get_or-set_same}
+use Rattle.std.proofs.Common.{◌≡◌, ℕ, suc, ◌+◌, ◌<◌, ◌≤◌, List, [], length, get_or, set, sym, ap, ap₂, ◌∙◌, subst, add-one, arith, length-set, get_or-set_other, get_or-set_same}
+use Rattle.std.specs.List.{SwappedAt}
 use native.Mathlib.Decide.{ℕ_discrete}
 use Rattle.models.specs.Networks.{across, wire, upper, lower, Cross, InRange, Legal, crossing}
 use Rattle.models.proofs.Crossings.{Across, down, up, still, moved, stays_in, wire_in, crossing_is, crosses_at}
 
 -- the list after a crossing
-abbrev pub swap : List ℕ → ℕ → List ℕ
-swap ws k = set (set ws k (get_or ws (k + 1) 0)) (k + 1) (get_or ws k 0)
-
-swap_at : (ws : List ℕ) (k : ℕ) {p m : ℕ} → Across k p m → k + 1 < length ws → get_or (swap ws k) p 0 ≡ get_or ws m 0
-swap_at ws k (up x) h =
-    let i : suc k < length (set ws k (get_or ws (suc k) 0)) = simp length-set (omega arith) in
-    rw (x, add-one, get_or-set_same (set ws k (get_or ws (suc k) 0)) (suc k) (get_or ws k 0) 0 i)
-swap_at ws k (down x) h =
-    let ne : k ≢ suc k = omega arith in
-    let i : k < length ws = omega arith in
-    rw (x, add-one, get_or-set_other (set ws k (get_or ws (suc k) 0)) (suc k) k (get_or ws k 0) 0 ne, get_or-set_same ws k (get_or ws (suc k) 0) 0 i)
-swap_at ws k {p} (still x x') h =
-    rw (add-one, get_or-set_other (set ws k (get_or ws (suc k) 0)) (suc k) p (get_or ws k 0) 0 x', get_or-set_other ws k p (get_or ws (suc k) 0) 0 x)
+swap_at : (ws vs : List ℕ) (k : ℕ) {p m : ℕ} → SwappedAt ws vs k (k + 1) → Across k p m → get_or vs p 0 ≡ get_or ws m 0
+swap_at ws vs k s (up x) = rw (x, ← add-one k) (s.1 0)
+swap_at ws vs k s (down x) = rw (x, ← add-one k) (s.0 0)
+swap_at ws vs k {p} s (still x y) = s.2 p 0 x (λ e. y (e ∙ add-one k))
 
 -- a list of the wires at each place
 abbrev pub Stand : ℕ → List ℕ → ℕ → List ℕ → Type 0
 Stand n cs t ws = (p : ℕ) → p < n → get_or ws p 0 ≡ wire cs t p
 
-module _ (n : ℕ) (cs : List ℕ) (t : ℕ) (ws : List ℕ) (long : n ≤ length ws) (range : InRange n cs t) (stand : Stand n cs t ws) where
-  pub stand_more : Stand n cs (t + 1) (swap ws (get_or cs t 0))
-  stand_more p h =
-      subst (λ s. get_or (swap ws (get_or cs t 0)) p 0 ≡ wire cs s p) (sym (add-one t))
-      (swap_at ws (get_or cs t 0) (moved (get_or cs t 0) p) (omega arith) ∙
-      stand (across (get_or cs t 0) p) (stays_in (moved (get_or cs t 0) p) range h))
+pub stand_more : (n : ℕ) (cs : List ℕ) (t : ℕ) (ws vs : List ℕ) → InRange n cs t → Stand n cs t ws →
+    SwappedAt ws vs (get_or cs t 0) (get_or cs t 0 + 1) → Stand n cs (t + 1) vs
+stand_more n cs t ws vs range stand s p h =
+    subst (λ s. get_or vs p 0 ≡ wire cs s p) (sym (add-one t))
+    (swap_at ws vs (get_or cs t 0) s (moved (get_or cs t 0) p) ∙
+    stand (across (get_or cs t 0) p) (stays_in (moved (get_or cs t 0) p) range h))
 
-  -- the two wires that are swapped
-  pub upper_is : get_or ws (get_or cs t 0) 0 ≡ upper cs t
-  upper_is = stand (get_or cs t 0) (omega arith)
+-- the two wires that a crossing swaps
+pub record Swapped (n : ℕ) (cs : List ℕ) (t : ℕ) (ws : List ℕ) : Type 0 where
+  pub is_upper : get_or ws (get_or cs t 0) 0 ≡ upper cs t
+  pub is_lower : get_or ws (get_or cs t 0 + 1) 0 ≡ lower cs t
+  pub below : get_or ws (get_or cs t 0 + 1) 0 < n
 
-  pub lower_is : get_or ws (get_or cs t 0 + 1) 0 ≡ lower cs t
-  lower_is = stand (get_or cs t 0 + 1) (omega arith) ∙ ap (wire cs t) (add-one (get_or cs t 0))
-
-  pub lower_in : ((s : ℕ) → s < t → InRange n cs s) → get_or ws (get_or cs t 0 + 1) 0 < n
-  lower_in before = subst (λ l. l < n) (sym lower_is) (wire_in n cs t before (suc (get_or cs t 0)) range)
+pub swapped : (n : ℕ) (cs : List ℕ) (t : ℕ) (ws : List ℕ) → ((s : ℕ) → s < length cs → InRange n cs s) → t < length cs → Stand n cs t ws →
+    Swapped n cs t ws
+swapped n cs t ws range within stand =
+    let here = range t within in
+    let e : get_or ws (get_or cs t 0 + 1) 0 ≡ lower cs t = stand (get_or cs t 0 + 1) (omega arith) ∙ ap (wire cs t) (add-one (get_or cs t 0)) in
+    record {
+      is_upper = stand (get_or cs t 0) (omega arith);
+      is_lower = e;
+      below = subst (λ l. l < n) (sym e) (wire_in n cs t (λ s h. range s (omega arith)) (suc (get_or cs t 0)) here);
+    }
 
 -- rows of 32 numbers, of which one is written
 abbrev pub Rows : List (List ℕ) → Type 0

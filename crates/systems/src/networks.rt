@@ -67,8 +67,7 @@ impl<'a> Crossings<'a> {
                 return Err(Fault::Recrossed(t));
             }
             times[upper][lower] = t as u16;
-            wires[*k] = lower;
-            wires[*k + 1] = upper;
+            wires.swap(*k, *k + 1);
         }
         Ok(times)
     }

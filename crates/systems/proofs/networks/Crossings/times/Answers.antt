@@ -1,39 +1,30 @@
 -- The crossing at t swaps two wires of which the upper has the smaller number, and its entry is noted for them.
-use Rattle.std.proofs.Common.{◌≡◌, ◌+◌, ◌<◌, [], length, replicate, get_or, refl, ap, arith, rules, length-set, below_more}
+use Rattle.std.proofs.Common.{◌+◌, [], length, replicate, get_or, refl, ap, arith, rules, length-set, below_more}
 use Rattle.std.proofs.lemmas.List.{get_or-replicate}
-use Rattle.models.specs.Networks.{upper, lower}
 use Rattle.systems.specs.Networks.{accepted, recrossed}
 use Rattle.models.proofs.Networked.{all_cross}
-use Rattle.systems.proofs.Following.{stand_more, upper_is, lower_is, lower_in, rows_more, noted_more}
+use Rattle.systems.proofs.Following.{swapped, stand_more, rows_more, noted_more}
 use Rattle.systems.proofs.networks.Crossings.times.Goals as goal
 
-module _ (c : goal.Else-lower-upper) where
-  low : get_or c.loop-t.wires (get_or c.args.self.now.list.now c.loop-t.t 0 + 1) 0 < c.args.self.now.count
-  low =
-      lower_in c.args.self.now.count c.args.self.now.list.now c.loop-t.t c.loop-t.wires (omega arith)
-      (c.requires.in_range c.loop-t.t c.loop-t-test.true) c.loop-t.invariant.3 (λ s h. c.requires.in_range s (omega arith))
-
-  is_upper : get_or c.loop-t.wires (get_or c.args.self.now.list.now c.loop-t.t 0) 0 ≡ upper c.args.self.now.list.now c.loop-t.t
-  is_upper =
-      upper_is c.args.self.now.count c.args.self.now.list.now c.loop-t.t c.loop-t.wires (omega arith)
-      (c.requires.in_range c.loop-t.t c.loop-t-test.true) c.loop-t.invariant.3
-
-  is_lower : get_or c.loop-t.wires (get_or c.args.self.now.list.now c.loop-t.t 0 + 1) 0 ≡ lower c.args.self.now.list.now c.loop-t.t
-  is_lower =
-      lower_is c.args.self.now.count c.args.self.now.list.now c.loop-t.t c.loop-t.wires (omega arith)
-      (c.requires.in_range c.loop-t.t c.loop-t-test.true) c.loop-t.invariant.3
-
 pub offset_bounds-times-upper : goal.offset_bounds-times-upper
-offset_bounds-times-upper c = let h = low c in omega arith
+offset_bounds-times-upper c =
+    let h = swapped c.args.self.now.count c.args.self.now.list.now c.loop-t.t c.loop-t.wires c.requires.in_range c.loop-t-test.true c.loop-t.invariant.3 in
+    omega arith
 
 pub offset_bounds-times-lower : goal.offset_bounds-times-lower
-offset_bounds-times-lower c = let h = low c in omega arith
+offset_bounds-times-lower c =
+    let h = swapped c.args.self.now.count c.args.self.now.list.now c.loop-t.t c.loop-t.wires c.requires.in_range c.loop-t-test.true c.loop-t.invariant.3 in
+    omega arith
 
 pub bounds-times-upper : goal.bounds-times-upper
-bounds-times-upper c = let h = low c in omega arith
+bounds-times-upper c =
+    let h = swapped c.args.self.now.count c.args.self.now.list.now c.loop-t.t c.loop-t.wires c.requires.in_range c.loop-t-test.true c.loop-t.invariant.3 in
+    omega arith
 
 pub bounds-times-lower : goal.bounds-times-lower
-bounds-times-lower c = let h = low c in omega arith
+bounds-times-lower c =
+    let h = swapped c.args.self.now.count c.args.self.now.list.now c.loop-t.t c.loop-t.wires c.requires.in_range c.loop-t-test.true c.loop-t.invariant.3 in
+    omega arith
 
 pub loop-t-init : goal.loop-t-init
 loop-t-init c = (
@@ -53,14 +44,14 @@ loop-t-preserved c =
     let range = c.requires.in_range t c.loop-t-test.true in
     let u = get_or c.loop-t.wires (get_or cs t 0) 0 in
     let l = get_or c.loop-t.wires (get_or cs t 0 + 1) 0 in
-    let below = low c in (
-      simp length-set c.loop-t.invariant.0,
+    let h = swapped c.args.self.now.count cs t c.loop-t.wires c.requires.in_range c.loop-t-test.true c.loop-t.invariant.3 in (
+      omega arith,
       simp length-set c.loop-t.invariant.1,
       rows_more c.loop-t.times u l t (omega arith) c.loop-t.invariant.2,
-      stand_more c.args.self.now.count cs t c.loop-t.wires (omega arith) range c.loop-t.invariant.3,
-      below_more _ _ c.loop-t.invariant.4 (let a = is_upper c in let b = is_lower c in omega arith),
+      stand_more c.args.self.now.count cs t c.loop-t.wires c.swap.new.self range c.loop-t.invariant.3 c.swap.ensures.by_index,
+      below_more _ _ c.loop-t.invariant.4 (omega arith),
       λ legal.
-          noted_more c.args.self.now.count cs t c.loop-t.times u l (is_upper c) (is_lower c) few c.loop-t-test.true c.if-lower-upper.false below
+          noted_more c.args.self.now.count cs t c.loop-t.times u l h.is_upper h.is_lower few c.loop-t-test.true c.if-lower-upper.false h.below
           c.loop-t.invariant.1 c.loop-t.invariant.2 legal (c.loop-t.invariant.5 legal),
     )
 
