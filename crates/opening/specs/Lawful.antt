@@ -11,5 +11,5 @@ use Rattle.opening.specs.Opening.{meaning_of}
 
 pub opened_lawful : (o : Opened) → Lawful (meaning_of o)
 opened_lawful (Points p) = lawful_plane p.places.now p.good
-opened_lawful (Network w) = network_lawful_few w.count w.crossings.now w.few w.legal
-opened_lawful (Table t) = table_lawful t.count (map is_left t.turns.now) t.few t.kept
+opened_lawful (Network w) = network_lawful_few w.crossings.count w.crossings.list.now w.crossings.few w.legal
+opened_lawful (Table t) = table_lawful t.turns.count (map is_left t.turns.list.now) t.turns.fits.few t.kept

@@ -34,13 +34,13 @@ kind_of (opened.Table t) = Table
 
 abbrev pub count_of : Opened → ℕ
 count_of (opened.Points p) = length p.places.now
-count_of (opened.Network w) = w.count
-count_of (opened.Table t) = t.count
+count_of (opened.Network w) = w.crossings.count
+count_of (opened.Table t) = t.turns.count
 
 abbrev pub values_of : (o : Opened) → List (Value (kind_of o))
 values_of (opened.Points p) = p.places.now
-values_of (opened.Network w) = w.crossings.now
-values_of (opened.Table t) = t.turns.now
+values_of (opened.Network w) = w.crossings.list.now
+values_of (opened.Table t) = t.turns.list.now
 
 abbrev pub meaning_of : Opened → Meaning
 meaning_of o = system (kind_of o) (count_of o) (values_of o)

@@ -4,3 +4,4 @@ pub mod Orders
 pub mod Opened
 pub mod Tables
 pub mod Networks
+pub mod Lengths

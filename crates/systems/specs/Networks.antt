@@ -1,5 +1,5 @@
 -- What the opener of a reflection network of at most 32 wires answers.
-use Rattle.std.specs.Prelude.{◌≡◌, ℕ, ◌+◌, ◌*◌, ◌<◌, ◌≤◌, ◌≢◌, List, [], ◌∷◌, length, Some, None, Option, slice_index}
+use Rattle.std.specs.Prelude.{◌≡◌, ℕ, ◌<◌, ◌≤◌, ◌≢◌, List, [], ◌∷◌, length, Some, None, Option, slice_index, slice_index_or}
 use Rattle.cc.specs.declared.faults.Fault.{Fault}
 use Rattle.cc.specs.declared.faults.Fault.TheVariants.{Outsize, Miscounted, Recrossed}
 use Rattle.laws.specs.Systems.{Left, Right}
@@ -21,9 +21,9 @@ pub data Judged (n : ℕ) (cs : List ℕ) : Option Fault → Type 0 where
   recrossed : {t : ℕ} → n ≤ 32 → length cs ≡ pairs_of n → ((s : ℕ) → s < length cs → InRange n cs s) →
       FirstWithout (Legal cs) (length cs) t → Judged n cs (Some (Recrossed t))
 
--- an array of 32 rows of 32 has, in row i at j, the entry at which wires i and j cross
-abbrev pub Timed : ℕ → List ℕ → List ℕ → Type 0
-Timed n cs times = (i j : ℕ) → i < j → j < n → slice_index times (32 * i + j) ≡ crossing cs i j
+-- the rows have, in row i at j, the entry at which wires i and j cross
+abbrev pub Timed : ℕ → List ℕ → List (List ℕ) → Type 0
+Timed n cs times = (i j : ℕ) → i < j → j < n → slice_index (slice_index_or times i []) j ≡ crossing cs i j
 
 -- a network has one fault only, or none
 abbrev pub OneJudgement : Type 0

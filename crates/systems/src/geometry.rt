@@ -1,6 +1,6 @@
 //! Checks of a list of places, and the exact determinant of three of them.
 
-ghost use Rattle.std.specs.Prelude.{◌≡◌, ◌<◌, ◌≤◌, true, length, ◌-ℤ◌, ◌*ℤ◌, MatchBool, MatchOption, unsigned_abs};
+ghost use Rattle.std.specs.Prelude.{◌≡◌, ◌<◌, ◌≤◌, length, ◌-ℤ◌, ◌*ℤ◌, MatchBool, MatchOption, unsigned_abs};
 ghost use Rattle.laws.specs.First.{First, FirstPair, NeverPair};
 ghost use Rattle.models.specs.Places.{Near, AllNear, Far, Twins, InLine, cross};
 ghost use Rattle.models.specs.Determinants.{det};
@@ -11,22 +11,11 @@ use super::offsets::{Arm, Offset};
 use super::searches::OfThree;
 use models::places::Place;
 
-// The greatest size of a coordinate.
-const REACH: i32 = 10_000;
-
-// Whether both coordinates are in range.
-fn near(p: Place) -> bool
-    ensures only { result ≡ true → Near p }
-    ensures all { Near p → result ≡ true }
-{
-    -REACH <= p.x && p.x <= REACH && -REACH <= p.y && p.y <= REACH
-}
-
 // The first place that is out of range.
 pub(crate) fn outside(places: &[Place]) -> Option<usize>
     ensures first { MatchOption result (AllNear places.now) (First (length places.now) (Far places.now)) }
 {
-    places.iter().position(|place| !near(*place))
+    places.iter().position(|place| !place.is_near())
 }
 
 // The first two places, in rising order, that are alike.

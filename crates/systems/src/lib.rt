@@ -2,8 +2,8 @@
 
 #![tactic(auto)]
 
-mod counts;
 mod geometry;
+mod lengths;
 pub mod networks;
 mod offsets;
 pub mod orders;

@@ -1,17 +1,18 @@
 //! Reflection networks: a CC system by the crossings of its wires.
 
-ghost use Rattle.std.specs.Prelude.{◌≡◌, ℕ, ◌+◌, ◌*◌, ◌<◌, ◌≤◌, T, ◌↔◌, [], length, Some, None, MatchResult, ◌==◌, slice_index};
+ghost use Rattle.std.specs.Prelude.{◌≡◌, ℕ, ◌+◌, ◌*◌, ◌<◌, ◌≤◌, T, ◌↔◌, [], length, Some, None, MatchResult, ◌==◌, slice_index, slice_index_or};
 ghost use Rattle.models.specs.Threes.{pairs_of};
 ghost use Rattle.models.specs.Networks.{upper, lower, InRange, Network, network, crossing};
 ghost use Rattle.models.proofs.Networked.{network_lawful_few};
 ghost use Rattle.systems.specs.Opened.{Holds};
 ghost use Rattle.systems.specs.Networks.{Judged, Timed, OneJudgement, ThreeWires};
 
-use super::counts::pairs;
+use super::lengths::check_length;
 use super::orders::in_order;
 use cc::checks::Checked;
 use cc::faults::Fault;
 use cc::{CcSystem, Turn};
+use models::counts::pairs;
 use std::array;
 
 // The wires, from top to bottom, before the first crossing.
@@ -22,75 +23,67 @@ fn start() -> [usize; 32]
     array::from_fn(|p| p)
 }
 
-// Whether a list has the length of a network of n wires.
-fn check_length(n: usize, crossings: &[usize]) -> Result<(), Fault>
-    ensures whole { MatchResult result (λ _. (n ≤ 32) × (length crossings.now ≡ pairs_of n)) (λ fault. Judged n crossings.now (Some fault)) }
-{
-    if n > 32 {
-        return Err(Fault::Outsize(32));
-    }
-    if crossings.len() != pairs(n) {
-        return Err(Fault::Miscounted(crossings.len()));
-    }
-    Ok(())
+// One crossing for each two of at most 32 wires.
+#[derive(Clone, Copy)]
+struct Crossings<'a> {
+    count: usize,
+    list: &'a [usize],
+    ghost few: { count ≤ 32 },
+    ghost long: { length list.now ≡ pairs_of count },
 }
 
-// Whether each crossing has both its places among n wires.
-fn check_range(n: usize, crossings: &[usize]) -> Result<(), Fault>
-    requires whole { (n ≤ 32) × (length crossings.now ≡ pairs_of n) }
-    ensures in_range { MatchResult result (λ _. (t : ℕ) → t < length crossings.now → InRange n crossings.now t) (λ fault. Judged n crossings.now (Some fault)) }
-{
-    match crossings.iter().position(|k| *k >= n || *k + 1 >= n) {
-        Some(t) => Err(Fault::Outsize(t)),
-        None => Ok(()),
+impl<'a> Crossings<'a> {
+    // The crossings of so many wires, if the list has the length for it.
+    fn of(count: usize, list: &'a [usize]) -> Result<Crossings<'a>, Fault>
+        ensures fits { MatchResult result (λ c. (c.count ≡ count) × (c.list.now ≡ list.now)) (λ f. Judged count list.now (Some f)) }
+    {
+        check_length(count, 32, pairs(count), list.len())?;
+        Ok(Crossings { count, list })
     }
-}
 
-// Follows the wires through the crossings: the entry at which each pair crosses, in row i at j for i < j,
-// or else why the crossings are no network.
-fn crossing_times(n: usize, crossings: &[usize]) -> Result<[u16; 1024], Fault>
-    requires whole { (n ≤ 32) × (length crossings.now ≡ pairs_of n) }
-    requires in_range { (t : ℕ) → t < length crossings.now → InRange n crossings.now t }
-    ensures judged { MatchResult result (λ times. Judged n crossings.now None × (length times ≡ 1024) × Timed n crossings.now times) (λ fault. Judged n crossings.now (Some fault)) }
-{
-    let mut wires = start();
-    let mut times = [0u16; 1024];
-    for (t, k) in crossings.iter().enumerate() {
-        let upper = wires[*k];
-        let lower = wires[*k + 1];
-        if lower <= upper {
-            return Err(Fault::Recrossed(t));
+    // Whether each crossing has both its places among the wires.
+    fn check_range(&self) -> Result<(), Fault>
+        ensures in_range { MatchResult result (λ _. (t : ℕ) → t < length self.now.list.now → InRange self.now.count self.now.list.now t) (λ fault. Judged self.now.count self.now.list.now (Some fault)) }
+    {
+        let n = self.count;
+        match self.list.iter().position(|k| *k >= n || *k + 1 >= n) {
+            Some(t) => Err(Fault::Outsize(t)),
+            None => Ok(()),
         }
-        times[32 * upper + lower] = t as u16;
-        wires[*k] = lower;
-        wires[*k + 1] = upper;
     }
-    Ok(times)
-}
 
-// The times of a network of n wires, or why the crossings are none.
-fn times_of(n: usize, crossings: &[usize]) -> Result<[u16; 1024], Fault>
-    ensures judged { MatchResult result (λ times. Judged n crossings.now None × (length times ≡ 1024) × Timed n crossings.now times) (λ fault. Judged n crossings.now (Some fault)) }
-{
-    check_length(n, crossings)?;
-    check_range(n, crossings)?;
-    crossing_times(n, crossings)
+    // Follows the wires through the crossings: the entry at which each pair crosses, in row i at j for i < j,
+    // or else why the crossings are no network.
+    fn times(&self) -> Result<[[u16; 32]; 32], Fault>
+        requires in_range { (t : ℕ) → t < length self.now.list.now → InRange self.now.count self.now.list.now t }
+        ensures judged { MatchResult result (λ times. Judged self.now.count self.now.list.now None × Timed self.now.count self.now.list.now times) (λ fault. Judged self.now.count self.now.list.now (Some fault)) }
+    {
+        let mut wires = start();
+        let mut times = [[0; 32]; 32];
+        for (t, k) in self.list.iter().enumerate() {
+            let upper = wires[*k];
+            let lower = wires[*k + 1];
+            if lower <= upper {
+                return Err(Fault::Recrossed(t));
+            }
+            times[upper][lower] = t as u16;
+            wires.swap(*k, *k + 1);
+        }
+        Ok(times)
+    }
 }
 
 // A CC system of at most 32 marks by the crossings of as many wires. The wires stand 0, 1, .. from top to bottom, and a crossing k swaps
 // those at places k and k + 1; every two cross once. For i < j < k the turn is left where i and j cross before j and k.
 #[derive(Clone, Copy)]
 pub struct ReflectionNetwork<'a> {
-    count: usize,
-    crossings: &'a [usize],
+    crossings: Crossings<'a>,
     // the entry at which wires i < j cross, in row i at j
-    times: [u16; 1024],
+    times: [[u16; 32]; 32],
     // stays beside what is held: opening cannot fail, and `checked` gives the system or the fault
     fault: Option<Fault>,
-    ghost few: { count ≤ 32 },
-    ghost legal: { (t : ℕ) → t < length crossings.now → upper crossings.now t < lower crossings.now t },
-    ghost long: { length times ≡ 1024 },
-    ghost timed: { (i j : ℕ) → i < j → j < count → T (slice_index times (32 * i + j) == crossing crossings.now i j) },
+    ghost legal: { (t : ℕ) → t < length crossings.list.now → upper crossings.list.now t < lower crossings.list.now t },
+    ghost timed: { (i j : ℕ) → i < j → j < crossings.count → T (slice_index (slice_index_or times i []) j == crossing crossings.list.now i j) },
 }
 
 impl<'a> ReflectionNetwork<'a> {
@@ -98,30 +91,34 @@ impl<'a> ReflectionNetwork<'a> {
     pub fn open(count: usize, crossings: &'a [usize]) -> ReflectionNetwork<'a>
         ensures judged { Judged count crossings.now result.fault }
         ensures network { (result.fault ≡ None) ↔ ((count ≤ 32) × Network count crossings.now) }
-        ensures holds { Holds count crossings.now result.count result.crossings.now result.fault }
+        ensures holds { Holds count crossings.now result.crossings.count result.crossings.list.now result.fault }
     {
-        let times = match times_of(count, crossings) {
-            Ok(times) => times,
-            Err(fault) => return ReflectionNetwork::refused(crossings, fault),
+        let fault = match ReflectionNetwork::of(count, crossings) {
+            Ok(network) => return network,
+            Err(fault) => fault,
         };
         ReflectionNetwork {
-            count,
-            crossings,
-            times,
-            fault: None,
+            crossings: Crossings {
+                count: 0,
+                list: &crossings[..0],
+            },
+            times: [[0; 32]; 32],
+            fault: Some(fault),
         }
     }
 
-    fn refused(crossings: &'a [usize], fault: Fault) -> ReflectionNetwork<'a>
-        ensures fault { result.fault ≡ Some fault }
-        ensures empty { (result.count ≡ 0) × (result.crossings.now ≡ []) }
+    // The network of the crossings, or why they are none.
+    fn of(count: usize, list: &'a [usize]) -> Result<ReflectionNetwork<'a>, Fault>
+        ensures judged { MatchResult result (λ w. Judged count list.now None × (w.fault ≡ None) × (w.crossings.count ≡ count) × (w.crossings.list.now ≡ list.now)) (λ fault. Judged count list.now (Some fault)) }
     {
-        ReflectionNetwork {
-            count: 0,
-            crossings: &crossings[..0],
-            times: [0u16; 1024],
-            fault: Some(fault),
-        }
+        let crossings = Crossings::of(count, list)?;
+        crossings.check_range()?;
+        let times = crossings.times()?;
+        Ok(ReflectionNetwork {
+            crossings,
+            times,
+            fault: None,
+        })
     }
 }
 
@@ -134,18 +131,18 @@ impl<'a> Checked for ReflectionNetwork<'a> {
 }
 
 impl<'a> CcSystem for ReflectionNetwork<'a> {
-    ghost meaning = { λ w. network w.count w.crossings.now };
+    ghost meaning = { λ w. network w.crossings.count w.crossings.list.now };
 
-    ghost lawful = { λ w. network_lawful_few w.count w.crossings.now w.few w.legal };
+    ghost lawful = { λ w. network_lawful_few w.crossings.count w.crossings.list.now w.crossings.few w.legal };
 
     fn count(&self) -> usize {
-        self.count
+        self.crossings.count
     }
 
     fn turn(&self, p: usize, q: usize, r: usize) -> Option<Turn> {
-        let order = in_order(self.count, p, q, r)?;
-        let first = self.times[32 * order.low + order.mid];
-        let second = self.times[32 * order.mid + order.high];
+        let order = in_order(self.count(), p, q, r)?;
+        let first = self.times[order.low][order.mid];
+        let second = self.times[order.mid][order.high];
         Some(order.turn(first < second))
     }
 }

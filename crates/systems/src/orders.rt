@@ -12,7 +12,7 @@ pub struct Order {
     pub low: usize,
     pub mid: usize,
     pub high: usize,
-    // stays a flag: an enum of two cases would hold the same three marks twice
+    // stays a flag: it answers one question, and `turn` compares it with another answer
     pub same: bool,
 }
 
@@ -21,15 +21,19 @@ impl Order {
     pub fn turn(&self, left: bool) -> Turn
         ensures turn { is_left result ≡ (if self.now.same then left else not left) }
     {
-        if left == self.same {
-            Turn::Left
-        } else {
-            Turn::Right
-        }
+        turned(left == self.same)
     }
 }
 
+// How marks turn, from whether they turn left.
+pub(crate) fn turned(left: bool) -> Turn
+    ensures turned { is_left result ≡ left }
+{
+    if left { Turn::Left } else { Turn::Right }
+}
+
 // Whether p, q and r are three different marks below n.
+// stays asked by an `if` that returns `None`: a closure for `then` would need both clauses of the function that it calls once more
 pub(crate) fn are_three(n: usize, p: usize, q: usize, r: usize) -> bool
     ensures three { MatchBool result (Three n p q r) (Three n p q r → ⊥) }
 {

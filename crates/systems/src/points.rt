@@ -1,21 +1,19 @@
 //! Points of the plane as a CC system.
 
-ghost use Rattle.std.specs.Prelude.{◌≡◌, length, Some, None, MatchBool, MatchResult};
-ghost use Rattle.laws.specs.Systems.{Three, Left, Right};
+ghost use Rattle.std.specs.Prelude.{◌≡◌, length, Some, None, MatchResult};
+ghost use Rattle.laws.specs.Systems.{Three};
 ghost use Rattle.models.specs.Places.{Good, plane};
 ghost use Rattle.models.proofs.Plane.{lawful_plane};
+ghost use Rattle.cc.specs.Turns.{Told};
 ghost use Rattle.systems.specs.Openings.{Judged, held};
 
 use super::geometry::{OnLine, determinant, outside, twins};
-use super::orders::are_three;
+use super::orders::{are_three, turned};
 use super::searches::first_three;
 use cc::checks::Checked;
 use cc::faults::Fault;
-use cc::{CcSystem, Turn};
+use cc::{CcSystem, LIMIT, Turn};
 use models::places::Place;
-
-// The most places that a list may have.
-const LIMIT: usize = 128;
 
 // A list of places, opened as a system: p, q and r turn left where they stand counterclockwise.
 // Refused, it holds no place, so it has no mark, and tells why.
@@ -52,12 +50,12 @@ impl<'a> Points<'a> {
         self.places
     }
 
-    // Whether three different marks turn left.
-    fn counterclockwise(&self, p: usize, q: usize, r: usize) -> bool
+    // How three different marks turn.
+    fn turn_of(&self, p: usize, q: usize, r: usize) -> Turn
         requires { Three (length self.now.places.now) p q r }
-        ensures turns { MatchBool result (Left (plane self.now.places.now) p q r) (Right (plane self.now.places.now) p q r) }
+        ensures told { Told (plane self.now.places.now) p q r (Some result) }
     {
-        determinant(self.places[p], self.places[q], self.places[r]) > 0
+        turned(determinant(self.places[p], self.places[q], self.places[r]) > 0)
     }
 }
 
@@ -101,10 +99,6 @@ impl<'a> CcSystem for Points<'a> {
         if !are_three(self.count(), p, q, r) {
             return None;
         }
-        if self.counterclockwise(p, q, r) {
-            Some(Turn::Left)
-        } else {
-            Some(Turn::Right)
-        }
+        Some(self.turn_of(p, q, r))
     }
 }

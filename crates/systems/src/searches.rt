@@ -24,7 +24,7 @@ pub(crate) fn first_three<P: OfThree>(property: &P) -> Option<(usize, usize, usi
     ensures first { MatchOption result (NeverTriple (P.below property.now) (P.property property.now)) (λ t. FirstTriple (P.below property.now) (P.property property.now) t.0 t.1 t.2) }
 {
     let n = property.count();
-    // stays three loops that a label leaves: this form is asked for here, and no library call finds a first three
+    // stays three loops: no library call finds a first three in rising order, and the label leaves all three at once, as is asked for here
     let mut found = None;
     'search: for i in 0..n {
         for j in i + 1..n {

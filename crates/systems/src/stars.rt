@@ -1,13 +1,14 @@
 //! The star about a point as a CC system.
 
-ghost use Rattle.std.specs.Prelude.{◌≡◌, ◌-◌, ◌<◌, ◌≤◌, length, Some, None, MatchBool, MatchResult};
-ghost use Rattle.laws.specs.Systems.{Three, Left, Right};
+ghost use Rattle.std.specs.Prelude.{◌≡◌, ◌-◌, ◌<◌, ◌≤◌, length, Some, None, MatchResult};
+ghost use Rattle.laws.specs.Systems.{Three};
 ghost use Rattle.models.specs.Stars.{Clear, star, other};
 ghost use Rattle.models.proofs.StarLaws.{lawful_star};
+ghost use Rattle.cc.specs.Turns.{Told};
 ghost use Rattle.systems.specs.Openings.{StarJudged, held};
 
 use super::geometry::{OnCircleWith, star_determinant};
-use super::orders::are_three;
+use super::orders::{are_three, turned};
 use super::points::Points;
 use super::searches::first_three;
 use cc::checks::Checked;
@@ -67,20 +68,21 @@ impl<'a> Star<'a> {
         if mark < self.centre { mark } else { mark + 1 }
     }
 
-    // Whether three different marks turn left.
-    fn counterclockwise(&self, p: usize, q: usize, r: usize) -> bool
+    // How three different marks turn.
+    fn turn_of(&self, p: usize, q: usize, r: usize) -> Turn
         requires { Three (length self.now.places.now - 1) p q r }
-        ensures turns { MatchBool result (Left (star self.now.places.now self.now.centre) p q r) (Right (star self.now.places.now self.now.centre) p q r) }
+        ensures told { Told (star self.now.places.now self.now.centre) p q r (Some result) }
     {
         let x = self.point_of(p);
         let y = self.point_of(q);
         let z = self.point_of(r);
-        star_determinant(
+        let determinant = star_determinant(
             self.places[self.centre],
             self.places[x],
             self.places[y],
             self.places[z],
-        ) > 0
+        );
+        turned(determinant > 0)
     }
 }
 
@@ -119,10 +121,6 @@ impl<'a> CcSystem for Star<'a> {
         if !are_three(self.count(), p, q, r) {
             return None;
         }
-        if self.counterclockwise(p, q, r) {
-            Some(Turn::Left)
-        } else {
-            Some(Turn::Right)
-        }
+        Some(self.turn_of(p, q, r))
     }
 }

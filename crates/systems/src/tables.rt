@@ -11,12 +11,13 @@ ghost use Rattle.systems.specs.Orders.{is_left};
 ghost use Rattle.systems.specs.Opened.{Holds};
 ghost use Rattle.systems.specs.Tables.{turn_table, Fits, Judged, OneJudgement, EntriesRise};
 
-use super::counts::{pairs, threes};
+use super::lengths::check_length;
 use super::orders::in_order;
 use cc::checks::Checked;
 use cc::faults::Fault;
 use cc::{CcSystem, Turn};
 use models::catalogue::{is_lawful_five, is_lawful_four};
+use models::counts::{pairs, threes};
 
 // The entry of i < j < k among the threes of n marks in rising order.
 fn entry(n: usize, i: usize, j: usize, k: usize) -> usize
@@ -48,12 +49,7 @@ impl<'a> Turns<'a> {
     fn of(count: usize, list: &'a [Turn]) -> Result<Turns<'a>, Fault>
         ensures fits { MatchResult result (λ t. (t.count ≡ count) × (t.list.now ≡ list.now)) (λ f. Judged count list.now (Some f)) }
     {
-        if count > 24 {
-            return Err(Fault::Outsize(24));
-        }
-        if list.len() != threes(count) {
-            return Err(Fault::Miscounted(list.len()));
-        }
+        check_length(count, 24, threes(count), list.len())?;
         Ok(Turns { count, list })
     }
 
@@ -100,7 +96,8 @@ impl<'a> Turns<'a> {
         ensures fours { MatchResult result (λ _. AllLawful 4 (turn_table self.now.count self.now.list.now)) (λ fault. Judged self.now.count self.now.list.now (Some fault)) }
     {
         let n = self.count;
-        // stays nested loops: the marks themselves are what is tested and told, and nothing is indexed by them
+        // stays nested loops: std names no groups of k marks, itertools' `combinations` allocates, and one search for any k
+        // would need a trait for the pattern, its test and the fault
         for a in 0..n {
             for b in a + 1..n {
                 for c in b + 1..n {
@@ -139,26 +136,14 @@ impl<'a> Turns<'a> {
     }
 }
 
-// Whether a list is a table of n marks; its first fault if it is none.
-fn check(n: usize, turns: &[Turn]) -> Result<(), Fault>
-    ensures judged { MatchResult result (λ _. Judged n turns.now None) (λ fault. Judged n turns.now (Some fault)) }
-{
-    let turns = Turns::of(n, turns)?;
-    turns.check_fours()?;
-    turns.check_fives()
-}
-
 // A CC system of at most 24 marks by one turn for each three of them, in rising order of the threes.
 #[derive(Clone, Copy)]
 pub struct TurnTable<'a> {
-    count: usize,
-    turns: &'a [Turn],
+    turns: Turns<'a>,
     // stays beside what is held: opening cannot fail, and `checked` gives the system or the fault
     fault: Option<Fault>,
-    ghost few: { count ≤ 24 },
-    ghost long: { length turns.now ≡ threes_of count },
     // the table passes the test of laws 4 and 5
-    ghost kept: { T (keeps count (spread (table_turns count (map is_left turns.now)))) },
+    ghost kept: { T (keeps turns.count (spread (table_turns turns.count (map is_left turns.list.now)))) },
 }
 
 impl<'a> TurnTable<'a> {
@@ -166,27 +151,29 @@ impl<'a> TurnTable<'a> {
     pub fn open(count: usize, turns: &'a [Turn]) -> TurnTable<'a>
         ensures judged { Judged count turns.now result.fault }
         ensures lawful { (result.fault ≡ None) ↔ (Fits count turns.now × Lawful (turn_table count turns.now)) }
-        ensures holds { Holds count turns.now result.count result.turns.now result.fault }
+        ensures holds { Holds count turns.now result.turns.count result.turns.list.now result.fault }
     {
-        if let Err(fault) = check(count, turns) {
-            return TurnTable::refused(turns, fault);
-        }
+        let fault = match TurnTable::of(count, turns) {
+            Ok(table) => return table,
+            Err(fault) => fault,
+        };
         TurnTable {
-            count,
-            turns,
-            fault: None,
+            turns: Turns {
+                count: 0,
+                list: &turns[..0],
+            },
+            fault: Some(fault),
         }
     }
 
-    fn refused(turns: &'a [Turn], fault: Fault) -> TurnTable<'a>
-        ensures fault { result.fault ≡ Some fault }
-        ensures empty { (result.count ≡ 0) × (result.turns.now ≡ []) }
+    // The table of the turns, or the first fault if they are none.
+    fn of(count: usize, list: &'a [Turn]) -> Result<TurnTable<'a>, Fault>
+        ensures judged { MatchResult result (λ t. Judged count list.now None × (t.fault ≡ None) × (t.turns.count ≡ count) × (t.turns.list.now ≡ list.now)) (λ fault. Judged count list.now (Some fault)) }
     {
-        TurnTable {
-            count: 0,
-            turns: &turns[..0],
-            fault: Some(fault),
-        }
+        let turns = Turns::of(count, list)?;
+        turns.check_fours()?;
+        turns.check_fives()?;
+        Ok(TurnTable { turns, fault: None })
     }
 }
 
@@ -199,21 +186,17 @@ impl<'a> Checked for TurnTable<'a> {
 }
 
 impl<'a> CcSystem for TurnTable<'a> {
-    ghost meaning = { λ t. turn_table t.count t.turns.now };
+    ghost meaning = { λ t. turn_table t.turns.count t.turns.list.now };
 
-    ghost lawful = { λ t. table_lawful t.count (map is_left t.turns.now) t.few t.kept };
+    ghost lawful = { λ t. table_lawful t.turns.count (map is_left t.turns.list.now) t.turns.fits.few t.kept };
 
     fn count(&self) -> usize {
-        self.count
+        self.turns.count
     }
 
     fn turn(&self, p: usize, q: usize, r: usize) -> Option<Turn> {
-        let order = in_order(self.count, p, q, r)?;
-        let turns = Turns {
-            count: self.count,
-            list: self.turns,
-        };
-        let left = turns.is_left(order.low, order.mid, order.high);
+        let order = in_order(self.count(), p, q, r)?;
+        let left = self.turns.is_left(order.low, order.mid, order.high);
         Some(order.turn(left))
     }
 }
