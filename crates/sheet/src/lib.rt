@@ -19,11 +19,11 @@ ghost use Rattle.sheet.specs.Theorems.{AllTriples, EveryTable, FirstLine, OneAns
 
 use cc::Turn;
 use cc::faults::Fault;
+pub use cc::texts::UnknownLetter;
 use lines::{Line, formed};
 use models::places::Place;
 use numbers::{cut, six_digits};
 pub use rooms::{Room, Values};
-use std::error::Error;
 use std::fmt;
 
 // What a sheet tells: its letter is P, W or T.
@@ -60,20 +60,17 @@ impl Kind {
     }
 }
 
-// A letter of no kind.
-#[derive(Clone, Copy, PartialEq, Eq, Debug)]
-pub struct UnknownLetter(pub u8);
-
+// The kind that P, W or T tells.
 impl TryFrom<u8> for Kind {
     type Error = UnknownLetter;
 
     ghost try_from_gives = { Lettered };
 
     fn try_from(letter: u8) -> Result<Kind, UnknownLetter> {
-        match letter {
-            b'P' => Ok(Kind::Points),
-            b'W' => Ok(Kind::Network),
-            b'T' => Ok(Kind::Table),
+        match char::from(letter) {
+            'P' => Ok(Kind::Points),
+            'W' => Ok(Kind::Network),
+            'T' => Ok(Kind::Table),
             _ => Err(UnknownLetter(letter)),
         }
     }
@@ -91,14 +88,6 @@ impl fmt::Display for Kind {
         })
     }
 }
-
-impl fmt::Display for UnknownLetter {
-    fn fmt<W: fmt::Write>(&self, f: &mut fmt::Formatter<W>) -> fmt::Result {
-        write!(f, "no kind of sheet has the letter {}", self.0)
-    }
-}
-
-impl Error for UnknownLetter {}
 
 // What a sheet's first line tells.
 #[derive(Clone, Copy)]

@@ -1,5 +1,6 @@
 use Rattle.std.proofs.Common.{length, refl, ap, arith, ltb-false, ltb-true}
 use Rattle.sheet.specs.Cuts.{only_turning, rest_unique, cut_none, no_side, no_letter}
+use Rattle.sheet.proofs.Results.{none_err}
 use Rattle.sheet.proofs.lines.turning_fields.Goals as goal
 use Rattle.sheet.proofs.lines.turning_fields.Goals.{in_default-via-then-last-lt1, in_default-via-else-last-lt1+else-last-lt2}
 
@@ -27,6 +28,6 @@ returns-in_default c =
 
 pub returns-in_err-turn : goal.returns-in_err-turn
 returns-in_err-turn c =
-    let told = c.in_err-turn.ensures in
+    let none = none_err _ _ c.try_from.result _ c.in_err-turn.ensures.value refl c.try_from.ensures in
     rw c.from_residual-in_err-turn.ensures
-    (no_side (record { at_i = c.in_ok-i.ensures.parts; at_j = c.in_ok-j.ensures.parts; at_k = c.in_ok-k.ensures.parts }) (no_letter _ _ refl told.0 told.1))
+    (no_side (record { at_i = c.in_ok-i.ensures.parts; at_j = c.in_ok-j.ensures.parts; at_k = c.in_ok-k.ensures.parts }) (no_letter _ _ refl none.1.0))
