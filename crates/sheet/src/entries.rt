@@ -3,7 +3,7 @@
 ghost use Rattle.std.specs.Prelude.{◌≡◌, ℕ, ◌+◌, ◌<◌, ◌≤◌, [], ◌∷◌, ◌++◌, length, decimal, MatchBool, MatchResult};
 ghost use Rattle.sheet.specs.Fields.{Lacks, Says};
 ghost use Rattle.sheet.specs.Forms.{Form, Judged, Missed, Stops, Upto};
-ghost use Rattle.sheet.specs.Sheets.{Near, crossings, marks, sixes, turns};
+ghost use Rattle.sheet.specs.Sheets.{crossings, marks, sixes, turns};
 ghost use Rattle.sheet.specs.Triples.{triple_at};
 ghost use Rattle.sheet.specs.Marks.{mark_whole};
 ghost use Rattle.sheet.specs.Turnings.{crossing_whole, turn_whole};
@@ -47,14 +47,8 @@ impl Entry for Place {
     }
 
     fn fits(&self, _count: usize) -> bool {
-        is_near(self.x) && is_near(self.y)
+        self.is_near()
     }
-}
-
-fn is_near(z: i32) -> bool
-    ensures { MatchBool result (Near z) (Near z → ⊥) }
-{
-    (-10_000..=10_000).contains(&z)
 }
 
 // A crossing, by its place.

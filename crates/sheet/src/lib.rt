@@ -14,13 +14,15 @@ mod spots;
 ghost use Rattle.std.specs.Prelude.{◌≡◌, ◌<◌, ◌≤◌, [], ◌∷◌, ◌++◌, drop, length, min, Some, MatchBool, MatchResult};
 ghost use Rattle.sheet.specs.Fields.{Says, Six};
 ghost use Rattle.sheet.specs.Shapes.{Lettered, letter};
-ghost use Rattle.sheet.specs.Sheets.{Answers, Copied, Opens, Unopened, due, heads, limit, lists};
+ghost use Rattle.sheet.specs.Sheets.{Answers, Opens, Unopened, due, heads, limit, lists};
 ghost use Rattle.sheet.specs.Theorems.{AllTriples, EveryTable, FirstLine, OneAnswer, RoundTrip, ShortEnough};
 
 use cc::Turn;
 use cc::faults::Fault;
+use cc::lists::copy_front;
 pub use cc::texts::UnknownLetter;
 use lines::{Line, formed};
+use models::counts::{pairs, threes};
 use models::places::Place;
 use numbers::{cut, six_digits};
 pub use rooms::{Room, Values};
@@ -51,11 +53,10 @@ impl Kind {
     pub fn due(self, count: usize) -> usize
         ensures due { result ≡ due self (min count (limit self)) }
     {
-        let n = count.min(self.limit());
         match self {
-            Kind::Points => n,
-            Kind::Network => n * n.saturating_sub(1) / 2,
-            Kind::Table => n * n.saturating_sub(1) * n.saturating_sub(2) / 6,
+            Kind::Points => count.min(self.limit()),
+            Kind::Network => pairs(count),
+            Kind::Table => threes(count),
         }
     }
 }
@@ -133,18 +134,6 @@ fn opening(text: &[u8]) -> Result<(Head, &[u8]), Fault>
     }
 }
 
-// Copies the values to the front of the list; a list that is too short stays as it is.
-fn copy_front<T: Copy>(values: &[T], list: &mut [T]) -> Result<(), Fault>
-    ensures { Copied values.now list.old list.new result }
-{
-    let n = values.len();
-    if list.len() < n {
-        return Err(Fault::Tight(n));
-    }
-    list[..n].copy_from_slice(values);
-    Ok(())
-}
-
 // Reads a sheet into the front of the list of its kind, and answers its kind and count; a refused text leaves the three lists as they are.
 pub fn read(
     text: &[u8],
@@ -156,10 +145,7 @@ pub fn read(
 {
     let mut room = Room::new();
     match room.read(text)? {
-        Values::Points(values) => {
-            copy_front(values, places)?;
-            Ok((Kind::Points, values.len()))
-        }
+        Values::Points(values) => Ok((Kind::Points, copy_front(values, places)?)),
         Values::Network {
             wires,
             crossings: values,
