@@ -99,7 +99,7 @@ struct Head {
 
 // The head that the line says, without the byte 10 at its end.
 fn head_told(line: &[u8]) -> Option<Head>
-    ensures { Says (λ h. Six h.count) (λ h. heads.line 0 (h.kind, h.count)) line.now result }
+    ensures told { Says (λ h. Six h.count) (λ h. heads.line 0 (h.kind, h.count)) line.now result }
 {
     let Line::Head { kind, count } = formed(line)? else {
         return None;
@@ -112,14 +112,14 @@ fn head_told(line: &[u8]) -> Option<Head>
 
 // Whether the text is no longer than a sheet may be.
 fn is_short(text: &[u8]) -> bool
-    ensures { MatchBool result (length text.now ≤ 32768) (32768 < length text.now) }
+    ensures short { MatchBool result (length text.now ≤ 32768) (32768 < length text.now) }
 {
     text.len() <= 32_768
 }
 
 // A text's head, and the lines after it.
 fn opening(text: &[u8]) -> Result<(Head, &[u8]), Fault>
-    ensures { MatchResult result (λ o. Opens text.now o.0.kind o.0.count o.1.now) (λ e. Unopened text.now e) }
+    ensures opened { MatchResult result (λ o. Opens text.now o.0.kind o.0.count o.1.now) (λ e. Unopened text.now e) }
 {
     if !is_short(text) {
         return Err(Fault::Outsize(0));

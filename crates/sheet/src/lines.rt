@@ -33,7 +33,7 @@ pub(crate) enum Line<'a> {
 
 // The fields of a turn's line, after its letter and the tab.
 fn turning_fields(fields: &[u8]) -> Option<Line<'_>>
-    ensures { Says Parted spelled (116 ∷ 9 ∷ fields.now) (option_map shape result) }
+    ensures fields { Says Parted spelled (116 ∷ 9 ∷ fields.now) (option_map shape result) }
 {
     let (i, after_i) = cut(fields, b'\t')?;
     let (j, after_j) = cut(after_i, b'\t')?;
@@ -45,7 +45,7 @@ fn turning_fields(fields: &[u8]) -> Option<Line<'_>>
 
 // The line that the bytes are, without the byte 10 at its end; none where they have no line's form.
 pub(crate) fn formed(bytes: &[u8]) -> Option<Line<'_>>
-    ensures { Says Parted spelled bytes.now (option_map shape result) }
+    ensures formed { Says Parted spelled bytes.now (option_map shape result) }
 {
     let [letter, b'\t', fields @ ..] = bytes else {
         return None;

@@ -6,4 +6,4 @@ pub returns-in_err-x-in-m : goal.returns-in_err-x-in-m
 returns-in_err-x-in-m c =
     let bytes = c.args.bytes.now in
     let begins : bytes ≡ 109 ∷ 9 ∷ take (length bytes - 2) (drop 2 bytes) = lettered _ 109 (omega arith) (omega arith) (omega arith) in
-    rw (c.from_residual.ensures, begins) (only_mark _ (λ x y l e. cut_none _ x y c.in_err-x-in-m.ensures.parts e))
+    rw (c.from_residual.ensures, begins) (record { formed = only_mark _ (λ x y l e. cut_none _ x y c.in_err-x-in-m.ensures.parts e) })
