@@ -5,13 +5,10 @@ ghost use Rattle.laws.specs.First.{Never};
 ghost use Rattle.models.specs.Places.{Near, place};
 ghost use Rattle.sections.specs.Tapes.{Root, squared, Taped, Strange, FirstStranger, TapeAnswer};
 
-use cc::CcSystem;
 use cc::faults::Fault;
+use cc::{CcSystem, LIMIT};
 use models::places::Place;
 use systems::points::Points;
-
-// The most entries that a ring may have.
-const LIMIT: usize = 128;
 
 // The greatest whole number whose square is at most the squared distance of two places.
 fn step(p: Place, q: Place) -> u64
