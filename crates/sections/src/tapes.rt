@@ -51,11 +51,10 @@ fn length_around(points: &Points<'_>, ring: &[usize]) -> u64
     ensures taped { Taped points.now.places.now ring.now result }
 {
     let (first, rest) = ring.split_at(ring.len().min(1));
-    let mut total = 0;
-    for (p, q) in ring.iter().zip(rest.iter().chain(first)) {
-        total += step_between(points, *p, *q);
-    }
-    total
+    ring.iter()
+        .zip(rest.iter().chain(first))
+        .map(|(p, q)| step_between(points, *p, *q))
+        .sum()
 }
 
 // The length of a tape around a ring of points: the whole lengths of the steps from each entry to its follower, added.
