@@ -17,16 +17,19 @@ ghost use Rattle.sheet.specs.Shapes.{Lettered, letter};
 ghost use Rattle.sheet.specs.Sheets.{Answers, Opens, Unopened, due, heads, limit, lists};
 ghost use Rattle.sheet.specs.Theorems.{AllTriples, EveryTable, FirstLine, OneAnswer, RoundTrip, ShortEnough};
 
-use cc::Turn;
 use cc::faults::Fault;
 use cc::lists::copy_front;
 pub use cc::texts::UnknownLetter;
+use cc::{LIMIT, Turn};
 use lines::{Line, formed};
 use models::counts::{pairs, threes};
 use models::places::Place;
 use numbers::{cut, six_digits};
 pub use rooms::{Room, Values};
 use std::fmt;
+
+// The most bytes that a sheet's text may have.
+const LONGEST: usize = 32_768;
 
 // What a sheet tells: its letter is P, W or T.
 #[derive(Clone, Copy, PartialEq, Eq, Debug)]
@@ -42,7 +45,7 @@ impl Kind {
         ensures limit { result ≡ limit self }
     {
         match self {
-            Kind::Points => 128,
+            Kind::Points => LIMIT,
             Kind::Network => 32,
             Kind::Table => 24,
         }
@@ -110,18 +113,11 @@ fn head_told(line: &[u8]) -> Option<Head>
     })
 }
 
-// Whether the text is no longer than a sheet may be.
-fn is_short(text: &[u8]) -> bool
-    ensures short { MatchBool result (length text.now ≤ 32768) (32768 < length text.now) }
-{
-    text.len() <= 32_768
-}
-
 // A text's head, and the lines after it.
 fn opening(text: &[u8]) -> Result<(Head, &[u8]), Fault>
     ensures opened { MatchResult result (λ o. Opens text.now o.0.kind o.0.count o.1.now) (λ e. Unopened text.now e) }
 {
-    if !is_short(text) {
+    if text.len() > LONGEST {
         return Err(Fault::Outsize(0));
     }
     let torn = Fault::Torn(1);
