@@ -1,12 +1,14 @@
 -- The list of a star's pairs, as it grows.
-use Rattle.std.proofs.Common.{◌≡◌, ℕ, ◌+◌, ◌<◌, ◌≤◌, ◌≢◌, ◌⊎◌, List, [], ◌∷◌, ◌++◌, length, drop, sym, refl, ap, ◌∙◌, subst, inl, inr, arith}
+use Rattle.std.proofs.Common.{◌≡◌, ℕ, ◌+◌, ◌<◌, ◌≢◌, ◌⊎◌, List, [], ◌∷◌, ◌++◌, length, take, drop, Ok, Err, Result, sym, refl, ap, ◌∙◌, subst, inl, inr, arith}
 use native.Mathlib.Decide.{dec_lt}
 use Rattle.std.proofs.lemmas.List.{get_or_append_left, get_or_push, length_push, take_at, drop_at}
+use Rattle.cc.specs.Lists.{Copied}
+use Rattle.cc.specs.declared.faults.Fault.{Fault}
 use Rattle.models.specs.declared.places.Place.{Place}
 use Rattle.models.specs.Stars.{other}
 use Rattle.models.proofs.StarLaws.{Other, under, past, other_is}
 use Rattle.systems.specs.Openings.{Starred}
-use Rattle.sections.specs.Delaunay.{Delaunay, pair, StarPairs, StarWritten}
+use Rattle.sections.specs.Delaunay.{Delaunay, pair, StarPairs, StarDeclined, StarAnswer, tight}
 
 -- the pairs whose first point is below b
 pub record PairsBelow (ps : List Place) (c b : ℕ) (l : List (ℕ × ℕ)) : Type 0 where
@@ -108,13 +110,14 @@ module _ (ps : List Place) (c : ℕ) where
       subst (λ p. PairsBelow ps c (other c (i + 1)) (l ++ (p, x.1) ∷ [])) (sym e)
       (pairs_push i x.1 l below (subst (λ p. Delaunay ps c p x.1) e d) one)
 
--- the list after the copy of the found pairs to its front
-pub copied : (ps : List Place) (c n : ℕ) (before found part : List (ℕ × ℕ)) → Starred ps c → n ≤ length before → length found ≡ n → part ≡ found → StarPairs ps c found → StarWritten ps c n before (part ++ drop n before)
-copied ps c n before found part starred fits many same pairs =
-    let long : length part ≡ n = ap length same ∙ many in
+-- the pairs are copied to the front of the list, or it is too short for them
+pub star_answer : (ps : List Place) (c : ℕ) (found before after : List (ℕ × ℕ)) (r : Result ℕ Fault) → Starred ps c → StarPairs ps c found → Copied found before after r → StarAnswer ps c before after r
+star_answer ps c found before after (Ok n) starred pairs (many, fits, is) =
     record {
       starred = starred;
-      fits = fits;
-      front = subst (StarPairs ps c) (sym (take_at part (drop n before) n long ∙ same)) pairs;
-      rest = drop_at part (drop n before) n long;
+      fits = omega (arith, many, fits);
+      front = subst (StarPairs ps c) (sym (ap (take n) is ∙ take_at found (drop (length found) before) n (sym many))) pairs;
+      rest = ap (drop n) is ∙ drop_at found (drop (length found) before) n (sym many) ∙ ap (λ m. drop m before) (sym many);
     }
+star_answer ps c found before after (Err f) starred pairs (is, short, same) =
+    (subst (StarDeclined ps c (length before)) (sym is) (tight starred pairs short), same)

@@ -7,14 +7,12 @@ ghost use Rattle.sections.specs.Delaunay.{Delaunay, StarPairs, StarAnswer};
 
 use super::arcs::{arc_from, turns_left};
 use arrayvec::ArrayVec;
-use cc::CcSystem;
 use cc::checks::Checked;
 use cc::faults::Fault;
+use cc::lists::copy_front;
+use cc::{CcSystem, LIMIT};
 use systems::points::Points;
 use systems::stars::Star;
-
-// The most marks that a system has.
-const LIMIT: usize = 128;
 
 // A mark of a points system, and the star about it.
 #[derive(Clone, Copy)]
@@ -69,10 +67,5 @@ pub fn star(points: &Points<'_>, c: usize, pairs: &mut [(usize, usize)]) -> Resu
     ensures answer { StarAnswer points.now.places.now c pairs.old pairs.new result }
 {
     let found = Centre::of(points, c)?.pairs();
-    let n = found.len();
-    if pairs.len() < n {
-        return Err(Fault::Tight(n));
-    }
-    pairs[..n].copy_from_slice(&found);
-    Ok(n)
+    copy_front(&found, pairs)
 }

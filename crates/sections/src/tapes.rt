@@ -5,13 +5,10 @@ ghost use Rattle.laws.specs.First.{Never};
 ghost use Rattle.models.specs.Places.{Near, place};
 ghost use Rattle.sections.specs.Tapes.{Root, squared, Taped, Strange, FirstStranger, TapeAnswer};
 
-use cc::CcSystem;
 use cc::faults::Fault;
+use cc::{CcSystem, LIMIT};
 use models::places::Place;
 use systems::points::Points;
-
-// The most entries that a ring may have.
-const LIMIT: usize = 128;
 
 // The greatest whole number whose square is at most the squared distance of two places.
 fn step(p: Place, q: Place) -> u64
@@ -54,11 +51,10 @@ fn length_around(points: &Points<'_>, ring: &[usize]) -> u64
     ensures taped { Taped points.now.places.now ring.now result }
 {
     let (first, rest) = ring.split_at(ring.len().min(1));
-    let mut total = 0;
-    for (p, q) in ring.iter().zip(rest.iter().chain(first)) {
-        total += step_between(points, *p, *q);
-    }
-    total
+    ring.iter()
+        .zip(rest.iter().chain(first))
+        .map(|(p, q)| step_between(points, *p, *q))
+        .sum()
 }
 
 // The length of a tape around a ring of points: the whole lengths of the steps from each entry to its follower, added.

@@ -9,7 +9,8 @@ use Rattle.cc.specs.declared.faults.Fault.{Fault}
 use Rattle.cc.specs.declared.faults.Fault.TheVariants.{Tight}
 use Rattle.sheet.specs.Fields.{SixSigned}
 use Rattle.sheet.specs.Forms.{Stops, Upto, lines}
-use Rattle.sheet.specs.Shapes.{letter, side}
+use Rattle.cc.specs.Texts.{side}
+use Rattle.sheet.specs.Shapes.{letter}
 use Rattle.sheet.specs.Sheets.{Declines, Holds, Lists, Opens, Others, Reads, Unopened, Value, long, headless, overcount, unopened, stopped, tight, crossings, due, form, heads, list, marks, sixes, turn_line, turns}
 use Rattle.sheet.specs.Theorems.{OneAnswer}
 use Rattle.sheet.specs.Triples.{triple_at}

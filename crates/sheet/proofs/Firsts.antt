@@ -46,7 +46,7 @@ fine_crossings n i (suc m) h = (omega arith, omega arith, fine_crossings n (suc 
 
 fine_places : (n i m : ℕ) → Fine (form Points n) i (replicate m (some_value Points))
 fine_places n i zero = tt
-fine_places n i (suc m) = ((omega arith, omega arith), ((omega arith, omega arith), (omega arith, omega arith)), fine_places n (suc i) m)
+fine_places n i (suc m) = ((omega arith, omega arith), record { x_near = omega arith; y_near = omega arith }, fine_places n (suc i) m)
 
 fine_some : (k : Kind) (n i m : ℕ) → n ≤ limit k → i + m ≡ due k n → Fine (form k n) i (replicate m (some_value k))
 fine_some Points n i m few h = fine_places n i m

@@ -5,7 +5,7 @@ use Rattle.std.proofs.lemmas.Fmt.{length-decimal-le}
 use Rattle.cc.specs.declared.Turn.{Turn}
 use Rattle.sheet.specs.Fields.{Six, SixSigned}
 use Rattle.sheet.specs.Forms.{Fine, Form, lines}
-use Rattle.sheet.specs.Shapes.{side}
+use Rattle.cc.specs.Texts.{side}
 use Rattle.sheet.specs.Sheets.{Sheet, Value, crossings, due, form, heads, marks, turn_line, turns}
 use Rattle.sheet.specs.Theorems.{EveryTable, ShortEnough}
 use Rattle.sheet.specs.Triples.{triple_at}

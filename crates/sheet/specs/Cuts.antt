@@ -3,10 +3,10 @@ use Rattle.std.specs.Prelude.{◌≡◌, ℕ, zero, suc, ◌-◌, ◌≤◌, ◌
 use Rattle.std.proofs.Common.{sym, ap, subst, ◌∙◌, arith}
 use Rattle.std.proofs.lemmas.List.{take_all}
 use Rattle.sheet.specs.Fields.{Lacks}
-use Rattle.sheet.specs.Shapes.{Shape, head, mark, crossing, turning, fields, spelled, Parted, side}
+use Rattle.cc.specs.Texts.{side}
+use Rattle.sheet.specs.Shapes.{Shape, head, mark, crossing, turning, fields, spelled, Parted}
 use Rattle.sheet.specs.declared.Kind.TheVariants.{Points, Network, Table}
 use Rattle.cc.specs.declared.Turn.{Turn}
-use Rattle.cc.specs.declared.Turn.TheVariants.{Left, Right}
 
 pub lacks_tail : (b a : ℕ) (x : List ℕ) → Lacks b (a ∷ x) → Lacks b x
 lacks_tail b a x l i h = l (suc i) (omega arith)
@@ -73,9 +73,8 @@ module _ {fs i ai j aj k last : List ℕ} (cuts : Cuts fs i ai j aj k last) wher
   no_side none =
       only_turning fs (λ i' j' k' t p e. none t (rest_unique aj k last k' _ cuts.at_k p.2 (rest_unique ai j aj j' _ cuts.at_j p.1 (rest_unique fs i ai i' _ cuts.at_i p.0 e))))
 
-pub no_letter : (last : List ℕ) (b : ℕ) → b ≡ slice_index last 0 → b ≢ 76 → b ≢ 82 → (t : Turn) → last ≢ side t ∷ []
-no_letter last b is l r Left e = l (is ∙ ap (λ s. slice_index s 0) e)
-no_letter last b is l r Right e = r (is ∙ ap (λ s. slice_index s 0) e)
+pub no_letter : (last : List ℕ) (b : ℕ) → b ≡ slice_index last 0 → ((t : Turn) → b ≢ side t) → (t : Turn) → last ≢ side t ∷ []
+no_letter last b is none t e = none t (is ∙ ap (λ s. slice_index s 0) e)
 
 -- `[letter, b'\t', fields @ ..]`
 pub lettered : (bs : List ℕ) (a : ℕ) → 2 ≤ length bs → slice_index bs 0 ≡ a → slice_index bs 1 ≡ 9 → bs ≡ a ∷ 9 ∷ take (length bs - 2) (drop 2 bs)

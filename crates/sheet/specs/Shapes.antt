@@ -1,11 +1,11 @@
 -- The lines of a sheet, without the byte 10 that ends each. A line is its letter, a tab, and its fields, parted by tabs.
 use Rattle.std.specs.Prelude.{◌≡◌, ◌≢◌, ℕ, List, [], ◌∷◌, ◌++◌, Result, MatchResult}
+use Rattle.cc.specs.Texts.{side}
 use Rattle.cc.specs.declared.Turn.{Turn}
-use Rattle.cc.specs.declared.Turn.TheVariants.{Left, Right}
+use Rattle.cc.specs.declared.texts.UnknownLetter.{UnknownLetter}
 use Rattle.sheet.specs.Fields.{Lacks}
 use Rattle.sheet.specs.declared.Kind.{Kind}
 use Rattle.sheet.specs.declared.Kind.TheVariants.{Points, Network, Table}
-use Rattle.sheet.specs.declared.UnknownLetter.{UnknownLetter}
 use Rattle.sheet.specs.declared.lines.Line.{Line}
 use Rattle.sheet.specs.declared.lines.Line.TheVariants as line
 
@@ -17,12 +17,7 @@ letter Table = 84
 
 -- the kind that the letter tells; none tells it otherwise
 abbrev pub Lettered : ℕ → Result Kind UnknownLetter → Type 0
-Lettered b r = MatchResult r (λ kind. b ≡ letter kind) (λ _. (kind : Kind) → b ≢ letter kind)
-
--- L and R
-abbrev pub side : Turn → ℕ
-side Left = 76
-side Right = 82
+Lettered b r = MatchResult r (λ kind. b ≡ letter kind) (λ error. ((kind : Kind) → b ≢ letter kind) × (error.0 ≡ b))
 
 -- a line by its fields
 pub data Shape : Type 0 where

@@ -1,10 +1,12 @@
 -- The text of a sheet, and what reading a text answers.
-use Rattle.std.specs.Prelude.{◌≡◌, ℕ, ◌+◌, ◌-◌, ◌*◌, ◌/◌, ◌<◌, ◌≤◌, List, ◌∷◌, ◌++◌, length, drop, replicate, ℤ, pos, negsuc, ◌≤ℤ◌, decimal, Result, MatchResult, ◌≢◌}
+use Rattle.std.specs.Prelude.{◌≡◌, ℕ, ◌+◌, ◌<◌, ◌≤◌, List, ◌∷◌, ◌++◌, length, drop, replicate, pos, decimal, Result, MatchResult, ◌≢◌}
 use Rattle.std.specs.Fmt.{signed_decimal}
 use Rattle.cc.specs.declared.Turn.{Turn}
 use Rattle.cc.specs.declared.Turn.TheVariants.{Left}
 use Rattle.cc.specs.declared.faults.Fault.{Fault}
 use Rattle.cc.specs.declared.faults.Fault.TheVariants.{Torn, Outsize, Tight}
+use Rattle.models.specs.Places.{Near}
+use Rattle.models.specs.Threes.{pairs_of, threes_of}
 use Rattle.models.specs.declared.places.Place.{Place}
 use Rattle.sheet.specs.Fields.{Six, SixSigned}
 use Rattle.sheet.specs.Forms.{Fine, Form, Stops, lines}
@@ -17,10 +19,6 @@ use Rattle.sheet.specs.declared.rooms.Room.{Room}
 use Rattle.sheet.specs.declared.rooms.Values.{Values}
 use Rattle.sheet.specs.declared.rooms.Values.TheVariants as values
 
--- a coordinate in range: from -10000 to 10000
-abbrev pub Near : ℤ → Type 0
-Near z = (negsuc 9999 ≤ℤ z) × (z ≤ℤ pos 10000)
-
 -- the greatest count
 abbrev pub limit : Kind → ℕ
 limit Points = 128
@@ -30,8 +28,8 @@ limit Table = 24
 -- how many lines follow the head: one for each mark, for each pair, or for each triple
 abbrev pub due : Kind → ℕ → ℕ
 due Points n = n
-due Network n = n * (n - 1) / 2
-due Table n = n * (n - 1) * (n - 2) / 6
+due Network n = pairs_of n
+due Table n = threes_of n
 
 -- the head: the kind's letter and the count
 abbrev pub heads : Form (Kind × ℕ)
@@ -39,7 +37,7 @@ heads = record { line = λ at v. spelled (head v.0 (decimal v.1)); Written = λ 
 
 -- a mark's place
 abbrev pub marks : Form Place
-marks = record { line = λ at p. spelled (mark (signed_decimal p.x) (signed_decimal p.y)); Written = λ at p. SixSigned p.x × SixSigned p.y; Fits = λ p. Near p.x × Near p.y }
+marks = record { line = λ at p. spelled (mark (signed_decimal p.x) (signed_decimal p.y)); Written = λ at p. SixSigned p.x × SixSigned p.y; Fits = Near }
 
 -- a crossing of n wires, by its upper place
 abbrev pub crossings : ℕ → Form ℕ
@@ -138,11 +136,6 @@ pub data Declines (text : List ℕ) (b : Lists) (fault : Fault) : Type 0 where
 -- what `read` answers, and what it leaves in the lists: a refusal leaves them as they were
 abbrev pub Answers : List ℕ → Lists → Lists → Result (Kind × ℕ) Fault → Type 0
 Answers text b a r = MatchResult r (λ o. Reads text o.0 o.1 b a) (λ e. Declines text b e × (a ≡ b))
-
--- the values are copied to the front of the list, and the rest of it is as before; or it is too short, and is as before
-abbrev pub Copied : {V : Type 0} → List V → List V → List V → Result (Unit {0}) Fault → Type 0
-Copied vs b a r =
-    MatchResult r (λ _. (length vs ≤ length b) × (a ≡ vs ++ drop (length vs) b)) (λ e. (length b < length vs) × (e ≡ Tight (length vs)) × (a ≡ b))
 
 -- no sheet was read into the room
 abbrev pub Blank : Room → Type 0

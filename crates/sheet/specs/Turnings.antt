@@ -6,7 +6,8 @@ use Rattle.std.proofs.Common.{sym, ap, subst, ◌∙◌, mul-le-mul, arith, eqb-
 use Rattle.std.proofs.lemmas.Bool.{eqb-false}
 use Rattle.std.proofs.lemmas.Fmt.{decimal_injective}
 use Rattle.sheet.specs.Fields.{Six, Lacks, Says}
-use Rattle.sheet.specs.Shapes.{Parted, side, spelled, turning}
+use Rattle.cc.specs.Texts.{side}
+use Rattle.sheet.specs.Shapes.{Parted, spelled, turning}
 use Rattle.sheet.specs.Sheets.{crossings, sixes, turn_line}
 use Rattle.sheet.specs.Triples.{after, triple_at}
 use Rattle.sheet.specs.declared.spots.Triple.{Triple}

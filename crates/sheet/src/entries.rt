@@ -3,7 +3,7 @@
 ghost use Rattle.std.specs.Prelude.{◌≡◌, ℕ, ◌+◌, ◌<◌, ◌≤◌, [], ◌∷◌, ◌++◌, length, decimal, MatchBool, MatchResult};
 ghost use Rattle.sheet.specs.Fields.{Lacks, Says};
 ghost use Rattle.sheet.specs.Forms.{Form, Judged, Missed, Stops, Upto};
-ghost use Rattle.sheet.specs.Sheets.{Near, crossings, marks, sixes, turns};
+ghost use Rattle.sheet.specs.Sheets.{crossings, marks, sixes, turns};
 ghost use Rattle.sheet.specs.Triples.{triple_at};
 ghost use Rattle.sheet.specs.Marks.{mark_whole};
 ghost use Rattle.sheet.specs.Turnings.{crossing_whole, turn_whole};
@@ -22,11 +22,11 @@ pub(crate) trait Entry: Copy + Drop {
 
     // What the line says, without the byte 10 at its end.
     fn told(line: &[u8], spot: Spot) -> Option<Self>
-        ensures { Says ((form spot.count).Written spot.at) ((form spot.count).line spot.at) line.now result };
+        ensures told { Says ((form spot.count).Written spot.at) ((form spot.count).line spot.at) line.now result };
 
     // Whether it is in range, in a sheet of so many marks.
     fn fits(&self, count: usize) -> bool
-        ensures { MatchBool result ((form count).Fits self.now) ((form count).Fits self.now → ⊥) };
+        ensures fits { MatchBool result ((form count).Fits self.now) ((form count).Fits self.now → ⊥) };
 
     ghost whole: { (n at : ℕ) (v : Self) → (form n).Written at v → Lacks 10 ((form n).line at v) };
 }
@@ -47,14 +47,8 @@ impl Entry for Place {
     }
 
     fn fits(&self, _count: usize) -> bool {
-        is_near(self.x) && is_near(self.y)
+        self.is_near()
     }
-}
-
-fn is_near(z: i32) -> bool
-    ensures { MatchBool result (Near z) (Near z → ⊥) }
-{
-    (-10_000..=10_000).contains(&z)
 }
 
 // A crossing, by its place.
@@ -94,14 +88,14 @@ impl Entry for Turn {
 
 // Whether the fields are the triple's marks.
 fn is_triple(i: &[u8], j: &[u8], k: &[u8], triple: Triple) -> bool
-    ensures { MatchBool result (sixes triple × (i.now ≡ decimal triple.i) × (j.now ≡ decimal triple.j) × (k.now ≡ decimal triple.k)) (sixes triple → i.now ≡ decimal triple.i → j.now ≡ decimal triple.j → k.now ≡ decimal triple.k → ⊥) }
+    ensures same { MatchBool result (sixes triple × (i.now ≡ decimal triple.i) × (j.now ≡ decimal triple.j) × (k.now ≡ decimal triple.k)) (sixes triple → i.now ≡ decimal triple.i → j.now ≡ decimal triple.j → k.now ≡ decimal triple.k → ⊥) }
 {
     is_number(i, triple.i) && is_number(j, triple.j) && is_number(k, triple.k)
 }
 
 // What the line that is due says, in range.
 fn judge<E: Entry>(line: &[u8], spot: Spot) -> Result<E, Fault>
-    ensures { Judged (E.form spot.count) spot.at (spot.at + 2) line.now result }
+    ensures judged { Judged (E.form spot.count) spot.at (spot.at + 2) line.now result }
 {
     let entry = E::told(line, spot).ok_or(Fault::Torn(spot.number()))?;
     if entry.fits(spot.count) {
@@ -113,7 +107,7 @@ fn judge<E: Entry>(line: &[u8], spot: Spot) -> Result<E, Fault>
 
 // The bytes of the line with this number, which is due, and what follows its byte 10.
 fn next_line(rest: &[u8], number: usize) -> Result<(&[u8], &[u8]), Fault>
-    ensures { MatchResult result (λ p. Lacks 10 p.0.now × (rest.now ≡ p.0.now ++ 10 ∷ p.1.now)) (λ e. Missed rest.now number e) }
+    ensures line { MatchResult result (λ p. Lacks 10 p.0.now × (rest.now ≡ p.0.now ++ 10 ∷ p.1.now)) (λ e. Missed rest.now number e) }
 {
     if rest.is_empty() {
         return Err(Fault::Miscounted(number));
@@ -123,7 +117,7 @@ fn next_line(rest: &[u8], number: usize) -> Result<(&[u8], &[u8]), Fault>
 
 // The text ends where the line with this number would begin.
 fn at_end(rest: &[u8], line: usize) -> Result<(), Fault>
-    ensures { MatchResult result (λ _. length rest.now ≡ 0) (λ e. (0 < length rest.now) × (e ≡ Fault.Miscounted line)) }
+    ensures end { MatchResult result (λ _. length rest.now ≡ 0) (λ e. (0 < length rest.now) × (e ≡ Fault.Miscounted line)) }
 {
     if rest.is_empty() {
         Ok(())
@@ -134,8 +128,8 @@ fn at_end(rest: &[u8], line: usize) -> Result<(), Fault>
 
 // Reads a line into each entry of the list, and nothing may follow them.
 pub(crate) fn read_lines<E: Entry>(text: &[u8], count: usize, list: &mut [E]) -> Result<(), Fault>
-    requires { length list.old ≤ 2024 }
-    ensures { MatchResult result (λ _. Upto (E.form count) text.now list.new []) (λ e. Stops (E.form count) (length list.old) text.now e) }
+    requires few { length list.old ≤ 2024 }
+    ensures read { MatchResult result (λ _. Upto (E.form count) text.now list.new []) (λ e. Stops (E.form count) (length list.old) text.now e) }
 {
     let mut rest = text;
     let mut spot = Spot::first(count);

@@ -14,17 +14,22 @@ mod spots;
 ghost use Rattle.std.specs.Prelude.{◌≡◌, ◌<◌, ◌≤◌, [], ◌∷◌, ◌++◌, drop, length, min, Some, MatchBool, MatchResult};
 ghost use Rattle.sheet.specs.Fields.{Says, Six};
 ghost use Rattle.sheet.specs.Shapes.{Lettered, letter};
-ghost use Rattle.sheet.specs.Sheets.{Answers, Copied, Opens, Unopened, due, heads, limit, lists};
+ghost use Rattle.sheet.specs.Sheets.{Answers, Opens, Unopened, due, heads, limit, lists};
 ghost use Rattle.sheet.specs.Theorems.{AllTriples, EveryTable, FirstLine, OneAnswer, RoundTrip, ShortEnough};
 
-use cc::Turn;
 use cc::faults::Fault;
+use cc::lists::copy_front;
+pub use cc::texts::UnknownLetter;
+use cc::{LIMIT, Turn};
 use lines::{Line, formed};
+use models::counts::{pairs, threes};
 use models::places::Place;
 use numbers::{cut, six_digits};
 pub use rooms::{Room, Values};
-use std::error::Error;
 use std::fmt;
+
+// The most bytes that a sheet's text may have.
+const LONGEST: usize = 32_768;
 
 // What a sheet tells: its letter is P, W or T.
 #[derive(Clone, Copy, PartialEq, Eq, Debug)]
@@ -40,7 +45,7 @@ impl Kind {
         ensures limit { result ≡ limit self }
     {
         match self {
-            Kind::Points => 128,
+            Kind::Points => LIMIT,
             Kind::Network => 32,
             Kind::Table => 24,
         }
@@ -51,29 +56,25 @@ impl Kind {
     pub fn due(self, count: usize) -> usize
         ensures due { result ≡ due self (min count (limit self)) }
     {
-        let n = count.min(self.limit());
         match self {
-            Kind::Points => n,
-            Kind::Network => n * n.saturating_sub(1) / 2,
-            Kind::Table => n * n.saturating_sub(1) * n.saturating_sub(2) / 6,
+            Kind::Points => count.min(self.limit()),
+            Kind::Network => pairs(count),
+            Kind::Table => threes(count),
         }
     }
 }
 
-// A letter of no kind.
-#[derive(Clone, Copy, PartialEq, Eq, Debug)]
-pub struct UnknownLetter(pub u8);
-
+// The kind that P, W or T tells.
 impl TryFrom<u8> for Kind {
     type Error = UnknownLetter;
 
     ghost try_from_gives = { Lettered };
 
     fn try_from(letter: u8) -> Result<Kind, UnknownLetter> {
-        match letter {
-            b'P' => Ok(Kind::Points),
-            b'W' => Ok(Kind::Network),
-            b'T' => Ok(Kind::Table),
+        match char::from(letter) {
+            'P' => Ok(Kind::Points),
+            'W' => Ok(Kind::Network),
+            'T' => Ok(Kind::Table),
             _ => Err(UnknownLetter(letter)),
         }
     }
@@ -92,14 +93,6 @@ impl fmt::Display for Kind {
     }
 }
 
-impl fmt::Display for UnknownLetter {
-    fn fmt<W: fmt::Write>(&self, f: &mut fmt::Formatter<W>) -> fmt::Result {
-        write!(f, "no kind of sheet has the letter {}", self.0)
-    }
-}
-
-impl Error for UnknownLetter {}
-
 // What a sheet's first line tells.
 #[derive(Clone, Copy)]
 struct Head {
@@ -109,7 +102,7 @@ struct Head {
 
 // The head that the line says, without the byte 10 at its end.
 fn head_told(line: &[u8]) -> Option<Head>
-    ensures { Says (λ h. Six h.count) (λ h. heads.line 0 (h.kind, h.count)) line.now result }
+    ensures told { Says (λ h. Six h.count) (λ h. heads.line 0 (h.kind, h.count)) line.now result }
 {
     let Line::Head { kind, count } = formed(line)? else {
         return None;
@@ -120,18 +113,11 @@ fn head_told(line: &[u8]) -> Option<Head>
     })
 }
 
-// Whether the text is no longer than a sheet may be.
-fn is_short(text: &[u8]) -> bool
-    ensures { MatchBool result (length text.now ≤ 32768) (32768 < length text.now) }
-{
-    text.len() <= 32_768
-}
-
 // A text's head, and the lines after it.
 fn opening(text: &[u8]) -> Result<(Head, &[u8]), Fault>
-    ensures { MatchResult result (λ o. Opens text.now o.0.kind o.0.count o.1.now) (λ e. Unopened text.now e) }
+    ensures opened { MatchResult result (λ o. Opens text.now o.0.kind o.0.count o.1.now) (λ e. Unopened text.now e) }
 {
-    if !is_short(text) {
+    if text.len() > LONGEST {
         return Err(Fault::Outsize(0));
     }
     let torn = Fault::Torn(1);
@@ -142,18 +128,6 @@ fn opening(text: &[u8]) -> Result<(Head, &[u8]), Fault>
     } else {
         Err(Fault::Outsize(1))
     }
-}
-
-// Copies the values to the front of the list; a list that is too short stays as it is.
-fn copy_front<T: Copy>(values: &[T], list: &mut [T]) -> Result<(), Fault>
-    ensures { Copied values.now list.old list.new result }
-{
-    let n = values.len();
-    if list.len() < n {
-        return Err(Fault::Tight(n));
-    }
-    list[..n].copy_from_slice(values);
-    Ok(())
 }
 
 // Reads a sheet into the front of the list of its kind, and answers its kind and count; a refused text leaves the three lists as they are.
@@ -167,10 +141,7 @@ pub fn read(
 {
     let mut room = Room::new();
     match room.read(text)? {
-        Values::Points(values) => {
-            copy_front(values, places)?;
-            Ok((Kind::Points, values.len()))
-        }
+        Values::Points(values) => Ok((Kind::Points, copy_front(values, places)?)),
         Values::Network {
             wires,
             crossings: values,

@@ -1,9 +1,9 @@
 //! A line and its fields.
 
-ghost use Rattle.std.specs.Prelude.{◌≡◌, ◌≢◌, ◌∷◌, MatchOption};
+ghost use Rattle.std.specs.Prelude.{◌∷◌};
 ghost use Rattle.std.specs.Option.{option_map};
 ghost use Rattle.sheet.specs.Fields.{Says};
-ghost use Rattle.sheet.specs.Shapes.{Parted, shape, side, spelled};
+ghost use Rattle.sheet.specs.Shapes.{Parted, shape, spelled};
 
 use super::Kind;
 use super::numbers::cut;
@@ -31,46 +31,34 @@ pub(crate) enum Line<'a> {
     },
 }
 
-// The turn that L or R tells.
-// stays a function: `TryFrom` for cc's `Turn` could stand in cc alone, which knows of no letters
-fn turn_of(letter: u8) -> Option<Turn>
-    ensures { MatchOption result ((letter ≢ 76) × (letter ≢ 82)) (λ turn. letter ≡ side turn) }
-{
-    match letter {
-        b'L' => Some(Turn::Left),
-        b'R' => Some(Turn::Right),
-        _ => None,
-    }
-}
-
 // The fields of a turn's line, after its letter and the tab.
 fn turning_fields(fields: &[u8]) -> Option<Line<'_>>
-    ensures { Says Parted spelled (116 ∷ 9 ∷ fields.now) (option_map shape result) }
+    ensures fields { Says Parted spelled (116 ∷ 9 ∷ fields.now) (option_map shape result) }
 {
     let (i, after_i) = cut(fields, b'\t')?;
     let (j, after_j) = cut(after_i, b'\t')?;
     let (k, last) = cut(after_j, b'\t')?;
     let [letter] = last else { return None };
-    let turn = turn_of(*letter)?;
+    let turn = Turn::try_from(*letter).ok()?;
     Some(Line::Turning { i, j, k, turn })
 }
 
 // The line that the bytes are, without the byte 10 at its end; none where they have no line's form.
 pub(crate) fn formed(bytes: &[u8]) -> Option<Line<'_>>
-    ensures { Says Parted spelled bytes.now (option_map shape result) }
+    ensures formed { Says Parted spelled bytes.now (option_map shape result) }
 {
     let [letter, b'\t', fields @ ..] = bytes else {
         return None;
     };
-    match *letter {
-        b'm' => {
+    match char::from(*letter) {
+        'm' => {
             let (x, y) = cut(fields, b'\t')?;
             Some(Line::Mark { x, y })
         }
-        b'c' => Some(Line::Crossing { place: fields }),
-        b't' => turning_fields(fields),
-        letter => Some(Line::Head {
-            kind: Kind::try_from(letter).ok()?,
+        'c' => Some(Line::Crossing { place: fields }),
+        't' => turning_fields(fields),
+        _ => Some(Line::Head {
+            kind: Kind::try_from(*letter).ok()?,
             count: fields,
         }),
     }

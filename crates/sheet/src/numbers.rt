@@ -17,7 +17,7 @@ pub fn cut(bytes: &[u8], mark: u8) -> Option<(&[u8], &[u8])>
 
 // Whether the bytes begin with a sign that `parse` would take, or with a needless zero.
 fn is_adorned(bytes: &[u8]) -> bool
-    ensures { MatchBool result ((slice_index bytes.now 0 ≡ 43) ⊎ ((slice_index bytes.now 0 ≡ 48) × (1 < length bytes.now))) ((slice_index bytes.now 0 ≢ 43) × (slice_index bytes.now 0 ≡ 48 → length bytes.now ≤ 1)) }
+    ensures adorned { MatchBool result ((slice_index bytes.now 0 ≡ 43) ⊎ ((slice_index bytes.now 0 ≡ 48) × (1 < length bytes.now))) ((slice_index bytes.now 0 ≢ 43) × (slice_index bytes.now 0 ≡ 48 → length bytes.now ≤ 1)) }
 {
     matches!(bytes, [b'+', ..] | [b'0', _, ..])
 }
@@ -36,14 +36,14 @@ pub fn number(bytes: &[u8], greatest: usize) -> Option<usize>
 
 // A count, a crossing or a mark: one to six digits.
 pub(crate) fn six_digits(bytes: &[u8]) -> Option<usize>
-    ensures { Says Six decimal bytes.now result }
+    ensures number { Says Six decimal bytes.now result }
 {
     number(bytes, SIX_NINES)
 }
 
 // A coordinate: a number, or a minus and a number above 0.
 pub(crate) fn coordinate(bytes: &[u8]) -> Option<i32>
-    ensures { Says SixSigned signed_decimal bytes.now result }
+    ensures coordinate { Says SixSigned signed_decimal bytes.now result }
 {
     match bytes {
         [b'-', digits @ ..] => negated(six_digits(digits)?),
@@ -53,15 +53,15 @@ pub(crate) fn coordinate(bytes: &[u8]) -> Option<i32>
 
 // The number below 0, or none for 0.
 fn negated(n: usize) -> Option<i32>
-    requires { Six n }
-    ensures { MatchOption result (n ≡ 0) (λ z. (0 < n) × (z ≡ neg_ℤ (pos n))) }
+    requires six { Six n }
+    ensures negated { MatchOption result (n ≡ 0) (λ z. (0 < n) × (z ≡ neg_ℤ (pos n))) }
 {
     (n > 0).then_some(-(n as i32))
 }
 
 // Whether the field is the number n.
 pub(crate) fn is_number(bytes: &[u8], n: usize) -> bool
-    ensures { MatchBool result (Six n × (bytes.now ≡ decimal n)) (Six n → bytes.now ≢ decimal n) }
+    ensures same { MatchBool result (Six n × (bytes.now ≡ decimal n)) (Six n → bytes.now ≢ decimal n) }
 {
     six_digits(bytes) == Some(n)
 }

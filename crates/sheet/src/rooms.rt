@@ -5,8 +5,8 @@ ghost use Rattle.sheet.specs.Sheets.{Blank, Declines, Lists, Tells};
 
 use super::entries::read_lines;
 use super::{Head, Kind, opening};
-use cc::Turn;
 use cc::faults::Fault;
+use cc::{LIMIT, Turn};
 use models::places::Place;
 
 // The values of a sheet, and the count of its marks where it is not their number.
@@ -26,7 +26,7 @@ pub enum Values<'a> {
 // Room for the values of any one sheet.
 #[derive(Drop)]
 pub struct Room {
-    places: [Place; 128],
+    places: [Place; LIMIT],
     crossings: [usize; 496],
     turns: [Turn; 2024],
 }
@@ -37,7 +37,7 @@ impl Room {
         ensures blank { Blank result }
     {
         Room {
-            places: [Place { x: 0, y: 0 }; 128],
+            places: [Place { x: 0, y: 0 }; LIMIT],
             crossings: [0; 496],
             turns: [Turn::Left; 2024],
         }

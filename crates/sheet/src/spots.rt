@@ -15,8 +15,8 @@ pub(crate) struct Triple {
 impl Triple {
     // The next triple in rising order, of the marks below n.
     fn following(self, n: usize) -> Triple
-        requires { (self.i + 3 < 2 ^ 64) × (self.j + 2 < 2 ^ 64) × (self.k + 1 < 2 ^ 64) }
-        ensures { result ≡ after n self }
+        requires small { (self.i + 3 < 2 ^ 64) × (self.j + 2 < 2 ^ 64) × (self.k + 1 < 2 ^ 64) }
+        ensures after { result ≡ after n self }
     {
         let Triple { i, j, k } = self;
         if k + 1 < n {
@@ -61,7 +61,7 @@ impl Spot {
 
     // The line after this one.
     pub(crate) fn following(self) -> Spot
-        requires { self.at < 2024 }
+        requires within { self.at < 2024 }
         ensures following { (result.count ≡ self.count) × (result.at ≡ self.at + 1) }
     {
         Spot {

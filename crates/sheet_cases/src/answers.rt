@@ -7,44 +7,33 @@ use sheet::Kind;
 use std::alloc::Global;
 use std::fmt::Write;
 
-// A value of a sheet, as an answer tells it.
-trait Value {
-    fn tell(&self, told: &mut String) -> anyhow::Result<()>;
-}
-
-impl Value for Place {
-    fn tell(&self, told: &mut String) -> anyhow::Result<()> {
-        let Place { x, y } = *self;
-        Ok(write!(told, "{x},{y}")?)
-    }
-}
-
-impl Value for usize {
-    fn tell(&self, told: &mut String) -> anyhow::Result<()> {
-        Ok(write!(told, "{self}")?)
-    }
-}
-
-impl Value for Turn {
-    fn tell(&self, told: &mut String) -> anyhow::Result<()> {
-        Ok(told.push_str(match self {
-            Turn::Left => "L",
-            Turn::Right => "R",
-        })?)
-    }
-}
-
-// The letter, the count, and the values that stand at the front of the list.
-fn sheet_told<V: Value>(
+// The letter, the count, and the values that stand at the front of the list of the kind.
+fn sheet_told(
     heap: Global,
     kind: Kind,
     count: usize,
-    list: &[V],
+    places: &[Place],
+    crossings: &[usize],
+    turns: &[Turn],
 ) -> anyhow::Result<String> {
     let mut told = format!(in heap; "{kind} {count}")?;
-    for value in list.iter().take(kind.due(count)) {
-        told.push(' ')?;
-        value.tell(&mut told)?;
+    let due = kind.due(count);
+    match kind {
+        Kind::Points => {
+            for Place { x, y } in places.iter().take(due) {
+                write!(told, " {x},{y}")?;
+            }
+        }
+        Kind::Network => {
+            for crossing in crossings.iter().take(due) {
+                write!(told, " {crossing}")?;
+            }
+        }
+        Kind::Table => {
+            for turn in turns.iter().take(due) {
+                write!(told, " {turn}")?;
+            }
+        }
     }
     Ok(told)
 }
@@ -61,11 +50,7 @@ pub(crate) fn answer(heap: Global, room: usize, text: &[u8]) -> anyhow::Result<S
     let mut crossings = vec![in heap; 0; room]?;
     let mut turns = vec![in heap; Turn::Left; room]?;
     match sheet::read(text, &mut places, &mut crossings, &mut turns) {
-        Ok((kind, count)) => match kind {
-            Kind::Points => sheet_told(heap, kind, count, &places),
-            Kind::Network => sheet_told(heap, kind, count, &crossings),
-            Kind::Table => sheet_told(heap, kind, count, &turns),
-        },
+        Ok((kind, count)) => sheet_told(heap, kind, count, &places, &crossings, &turns),
         Err(fault) => refusal_told(heap, fault),
     }
 }

@@ -38,6 +38,7 @@ fn compare(
 }
 
 // The bytes of a sheet, from its line in the table.
+// stays here, though `report_cases` has its own: two programs share only libraries, and none of those is about how a table of cases is written
 fn decoded(heap: Global, sheet: &str) -> anyhow::Result<Vec<u8>> {
     let mut text = Vec::new(heap);
     for b in sheet.bytes() {

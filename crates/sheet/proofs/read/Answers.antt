@@ -14,19 +14,19 @@ pub returns-in_err-copy_front-in-Points : goal.returns-in_err-copy_front-in-Poin
 returns-in_err-copy_front-in-Points c =
     let p = err_from_is_err_and c.from_residual-in_err-copy_front-in-Points.result c.from_residual-in_err-copy_front-in-Points.ensures.1 in
     let told = subst (Tells c.args.text.now) c.in-Points.is c.in_ok-values.ensures.told in
-    let short = c.in_err-copy_front-in-Points.ensures in
-    rw (p.1, p.2) (record { answers = (too_short Points _ _ _ _ _ told short.0 short.1, ap (λ l. lists l c.args.crossings.now c.args.turns.now) short.2) })
+    let short = c.in_err-copy_front-in-Points.ensures.copied in
+    rw (p.1, p.2) (record { answers = (too_short Points _ _ _ _ _ told short.1 short.0, ap (λ l. lists l c.args.crossings.now c.args.turns.now) short.2) })
 
 pub returns-in_err-copy_front-in-Network : goal.returns-in_err-copy_front-in-Network
 returns-in_err-copy_front-in-Network c =
     let p = err_from_is_err_and c.from_residual-in_err-copy_front-in-Network.result c.from_residual-in_err-copy_front-in-Network.ensures.1 in
     let told = subst (Tells c.args.text.now) c.in-Network.is c.in_ok-values.ensures.told in
-    let short = c.in_err-copy_front-in-Network.ensures in
-    rw (p.1, p.2) (record { answers = (too_short Network _ c.in-Network.wires _ _ _ told short.0 short.1, ap (λ l. lists c.args.places.now l c.args.turns.now) short.2) })
+    let short = c.in_err-copy_front-in-Network.ensures.copied in
+    rw (p.1, p.2) (record { answers = (too_short Network _ c.in-Network.wires _ _ _ told short.1 short.0, ap (λ l. lists c.args.places.now l c.args.turns.now) short.2) })
 
 pub returns-in_err-copy_front-in-Table : goal.returns-in_err-copy_front-in-Table
 returns-in_err-copy_front-in-Table c =
     let p = err_from_is_err_and c.from_residual-in_err-copy_front-in-Table.result c.from_residual-in_err-copy_front-in-Table.ensures.1 in
     let told = subst (Tells c.args.text.now) c.in-Table.is c.in_ok-values.ensures.told in
-    let short = c.in_err-copy_front-in-Table.ensures in
-    rw (p.1, p.2) (record { answers = (too_short Table _ c.in-Table.marks _ _ _ told short.0 short.1, ap (λ l. lists c.args.places.now c.args.crossings.now l) short.2) })
+    let short = c.in_err-copy_front-in-Table.ensures.copied in
+    rw (p.1, p.2) (record { answers = (too_short Table _ c.in-Table.marks _ _ _ told short.1 short.0, ap (λ l. lists c.args.places.now c.args.crossings.now l) short.2) })

@@ -1,42 +1,48 @@
-use Rattle.std.proofs.Common.{◌≡◌, ◌+◌, ◌<◌, length, sym, ap, ◌∙◌, subst, arith}
-use Rattle.std.specs.Iterator.Adapters.{chain_first, chain_second, chain_first_done, chain_second_done, zip_first, zip_second}
+use Rattle.std.proofs.Common.{rules, tests, ap, ◌∙◌, arith}
+use Rattle.std.specs.Iterator.Adapters.{chain_first, chain_second, chain_first_done, chain_second_done, chain_steps, map_source}
 use Rattle.std.specs.Slice.Iter.{iter_rest}
-use Rattle.std.proofs.lemmas.Iterator.Consumers.{YieldsList-turn}
-use Rattle.std.proofs.lemmas.List.{length_push}
+use Rattle.std.proofs.iter.Yields.{fronts}
+use Rattle.std.proofs.lemmas.Iterator.{YieldsList, YieldsList-from_map, zips}
+use Rattle.std.proofs.lemmas.Iterator.Adapters.{at_most_from_yields_List, fits_from_length, serves_from_places}
+use Rattle.std.proofs.lemmas.Iterator.Consumers.{YieldsList-at, sum_by_from_yields_List}
 use Rattle.models.specs.Places.{place}
-use Rattle.sections.specs.Tapes.{Root, entry, follower, squared}
-use Rattle.sections.proofs.Lengths.{TapedBelow, follower_known, ring_steps, step_at, tape_more}
+use Rattle.sections.specs.Tapes.{squared}
+use Rattle.sections.proofs.Lengths.{marks_known, length-turns, one_root, ring_steps, step, step_is, taped, turns}
 use Rattle.sections.proofs.tapes.length_around.Goals as goal
-use Rattle.sections.proofs.tapes.length_around.Goals.{In-Some}
+use Rattle.sections.proofs.tapes.length_around.Goals.{After-map}
 
--- an entry of the ring, and its follower
-turn : (c : In-Some) → (length c.loop-p.yielded < length c.args.ring.now) × (c.in-Some.p.now ≡ entry c.args.ring.now (length c.loop-p.yielded)) × (c.in-Some.q.now ≡ follower c.args.ring.now (length c.loop-p.yielded))
-turn c =
-    let ring = c.args.ring.now in
-    let zip = c.into_iter-p-iterator.ensures.into_iter_gives in
-    let chain = ap zip_second zip ∙ c.zip-p-items.ensures.second in
-    let steps = ring_steps ring c.min.result {s = c.into_iter-p-iterator.result}
-    (ap (λ z. iter_rest (zip_first z)) zip ∙ ap iter_rest c.zip-p-items.ensures.first ∙ c.iter.ensures.rest)
+-- the marks that the closure is given
+given : (c : After-map) → YieldsList (zips fronts (chain_steps fronts fronts)) (λ p. (p.0.now, p.1.now)) (map_source c.map.result) (turns c.args.ring.now c.min.result)
+given c =
+    let chain = c.zip.ensures.second in
+    YieldsList-at c.map.ensures.source
+    (ring_steps c.args.ring.now c.min.result {s = c.zip.result}
+    (ap iter_rest c.zip.ensures.first ∙ c.iter.ensures.rest)
     (ap (λ z. iter_rest (chain_first z)) chain ∙ ap iter_rest c.chain.ensures.first ∙ c.iter-2.ensures.rest ∙ c.split_at.ensures.back)
     (ap (λ z. iter_rest (chain_second z)) chain ∙ c.chain.ensures.second.0 ∙ c.split_at.ensures.front)
     (ap chain_first_done chain ∙ c.chain.ensures.first_done)
-    (ap chain_second_done chain ∙ c.chain.ensures.second_done) in
-    step_at c.min.result ring c.min.ensures (length c.loop-p.yielded) (c.in-Some.p.now, c.in-Some.q.now)
-    (YieldsList-turn steps c.loop-p.yielded c.loop-p.p-iterator c.loop-p.yielded_by _ c.next.new.self (c.in-Some.p, c.in-Some.q) c.in-Some.is c.next.ensures.steps)
+    (ap chain_second_done chain ∙ c.chain.ensures.second_done))
 
-pub step_between-total-requires-clause-q : goal.step_between-total-requires-clause-q
-step_between-total-requires-clause-q c =
-    let t = turn (goal.at.step_between-total-requires-clause-q c).In-Some in
-    subst (λ q. q < length c.args.points.now.places.now) (sym t.2) (follower_known _ _ _ c.requires.marks t.0)
+pub sum-requires-clause-can : goal.sum-requires-clause-can
+sum-requires-clause-can c = (
+  (tt, (λ _. tt, λ _. tt)),
+  serves_from_places (given (goal.at.sum-requires-clause-can c).After-map) (λ x q k. search rules) (λ x k lt is.
+      let marks = marks_known c.args.points.now.places.now c.args.ring.now c.min.result k (x.0.now, x.1.now) c.min.ensures c.requires.marks (lt, is) in
+      search rules),
+)
 
-pub loop-p-preserved : goal.loop-p-preserved
-loop-p-preserved c =
+pub sum-requires-clause-fits : goal.sum-requires-clause-fits
+sum-requires-clause-fits c =
+    fits_from_length _ _ 128 _
+    (at_most_from_yields_List (given (goal.at.sum-requires-clause-fits c).After-map) (omega (arith, length-turns c.args.ring.now c.min.result c.min.ensures, c.requires.few)))
+    c.map.ensures.closure (omega arith) (λ x r q k. search (rules, tests))
+
+pub returns : goal.returns
+returns c =
     let ps = c.args.points.now.places.now in
-    let t = turn (goal.at.loop-p-preserved c).In-Some in
-    let r = c.step_between-total.result in
-    let long = length_push c.loop-p.yielded (c.in-Some.p, c.in-Some.q) in (
-      omega (arith, long, c.loop-p.invariant.0, c.step_between-total.ensures.small),
-      subst (λ k. TapedBelow ps c.args.ring.now k (c.loop-p.total + r)) (sym long)
-          (tape_more ps c.args.ring.now (length c.loop-p.yielded) c.loop-p.total r c.loop-p.invariant.1
-          (subst (λ x. x) (λ z. Root (squared (place ps (t.1 z)) (place ps (t.2 z))) r) c.step_between-total.ensures.root)),
-    )
+    let ring = c.args.ring.now in
+    record {
+      taped = taped ps ring c.min.result c.sum.result c.min.ensures
+          (sum_by_from_yields_List (step ps) (turns ring c.min.result) c.map.result c.sum.result c.sum.ensures.ran
+          (YieldsList-from_map _ (step ps) (given (goal.at.returns c).After-map) c.map.ensures.closure (λ x r q k. (search rules, one_root (squared (place ps x.0.now) (place ps x.1.now)) r _ (search rules) (step_is ps (x.0.now, x.1.now))))));
+    }

@@ -5,7 +5,7 @@ use Rattle.sheet.proofs.numbers.number.Goals as goal
 
 pub returns-then-is_adorned : goal.returns-then-is_adorned
 returns-then-is_adorned c =
-    record { number = λ v le is. unadorned v (omega (arith, c.ranges.greatest)) _ is c.if-is_adorned.ensures }
+    record { number = λ v le is. unadorned v (omega (arith, c.ranges.greatest)) _ is c.if-is_adorned.ensures.adorned }
 
 pub returns-in_err-text : goal.returns-in_err-text
 returns-in_err-text c =
@@ -15,9 +15,9 @@ returns-in_err-text c =
 pub returns-in_err-n : goal.returns-in_err-n
 returns-in_err-n c =
     rw c.from_residual-in_err-n.ensures
-    (record { number = not_parsed c.args.greatest (omega (arith, c.ranges.greatest)) _ _ (some_ok _ _ c.from_utf8.result c.in_ok-text.text c.in_ok-text.ensures.value c.from_utf8.ensures.cases).0 c.if-is_adorned.ensures _ c.parse.ensures.value.0 _ c.ok-2.ensures.value c.in_err-n.was })
+    (record { number = not_parsed c.args.greatest (omega (arith, c.ranges.greatest)) _ _ (some_ok _ _ c.from_utf8.result c.in_ok-text.text c.in_ok-text.ensures.value c.from_utf8.ensures.cases).0 c.if-is_adorned.ensures.adorned _ c.parse.ensures.value.0 _ c.ok-2.ensures.value c.in_err-n.was })
 
 pub returns : goal.returns
 returns c =
     rw c.then_some.ensures
-    (record { number = parsed_number c.args.greatest (omega (arith, c.ranges.greatest)) _ _ (some_ok _ _ c.from_utf8.result c.in_ok-text.text c.in_ok-text.ensures.value c.from_utf8.ensures.cases).0 c.if-is_adorned.ensures _ c.parse.ensures.value.0 _ c.in_ok-n.ensures.value })
+    (record { number = parsed_number c.args.greatest (omega (arith, c.ranges.greatest)) _ _ (some_ok _ _ c.from_utf8.result c.in_ok-text.text c.in_ok-text.ensures.value c.from_utf8.ensures.cases).0 c.if-is_adorned.ensures.adorned _ c.parse.ensures.value.0 _ c.in_ok-n.ensures.value })

@@ -11,10 +11,10 @@ pub returns-in_err-i : goal.returns-in_err-i
 returns-in_err-i c =
     let t = triple_at c.args.spot.count c.args.spot.at in
     rw c.from_residual.ensures
-    (λ v w e. c.in_err-i.ensures (turning (decimal t.i) (decimal t.j) (decimal t.k) v) (turn_parted t v w) e)
+    (record { told = λ v w e. c.in_err-i.ensures.formed (turning (decimal t.i) (decimal t.j) (decimal t.k) v) (turn_parted t v w) e })
 
 pub returns : goal.returns
 returns c =
-    let is = subst (λ l. Parted (shape l) × (c.args.line.now ≡ spelled (shape l))) c.in-Turning.is c.in_ok-i.ensures in
+    let is = subst (λ l. Parted (shape l) × (c.args.line.now ≡ spelled (shape l))) c.in-Turning.is c.in_ok-i.ensures.formed in
     rw c.then_some.ensures
-    (subst (λ t. Says (λ _. sixes t) (turn_line t) c.args.line.now (then_some c.is_triple.result c.in-Turning.turn)) c.args.spot.here (told_turn _ _ _ _ _ c.args.spot.triple c.is_triple.result is c.is_triple.ensures))
+    (record { told = subst (λ t. Says (λ _. sixes t) (turn_line t) c.args.line.now (then_some c.is_triple.result c.in-Turning.turn)) c.args.spot.here (told_turn _ _ _ _ _ c.args.spot.triple c.is_triple.result is c.is_triple.ensures.same) })

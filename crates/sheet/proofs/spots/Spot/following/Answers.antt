@@ -6,4 +6,4 @@ pub following-requires : goal.following-requires
 following-requires c =
     let s = c.args.self in
     let rises = subst (λ t. Rises t (s.at + 2)) (sym s.here) (triple_rises s.count s.at) in
-    (omega (arith, s.low), omega (arith, s.low), omega (arith, s.low))
+    record { small = (omega (arith, s.low), omega (arith, s.low), omega (arith, s.low)) }
