@@ -5,7 +5,7 @@ use Rattle.std.specs.List.{AllByRecursion}
 use Rattle.std.proofs.ByRecursion.{All-append}
 use Rattle.laws.specs.Systems.{Meaning, Left, Lawful}
 use Rattle.laws.specs.Outlines.{Marks, adding, Arc, Follows, Hull, Turned, Grown}
-use Rattle.laws.proofs.Walks.{Walk, end, on, after, before, first, last, join, cut, step, steps, walk_map, apart_mid, all_cut, Run, all, none, some, run, stays}
+use Rattle.laws.proofs.Walks.{Walk, end, on, after, first, last, join, cut, step, steps, walk_map, apart_mid, all_cut, Run, all, none, some, run, stays}
 use Rattle.laws.proofs.Arcs.{one_after, one_before, kept, arc_to, arc_from, turn, not_all, whole}
 
 -- a closed walk along arcs, back at h for the first time
@@ -67,15 +67,6 @@ module _ {m : Meaning} (L : Lawful m) {s : ℕ → Type 0} (marks : Marks m s) w
         whole L (marks' m marks x_in)
         (join (walk_map (λ p q a. kept L a.0 a.1) w) (on (after_hidden (last w) (first v)) (end (after_seen (last v) (first w)))))
         (All-append _ rest (t ∷ x ∷ []) ns (n, ((last v).1.three.q≢r, tt)))
-
-    -- the run of arcs that x sees, between two that are hidden, is all that x sees
-    pub settle : {t t' : ℕ} {gone rest : List ℕ} → Loop m s t (gone ++ t' ∷ rest) → Walk Seen t gone t' → Hidden (before t' rest) t → Hidden t' (after rest t)
-        → Walk Hidden t' rest t
-    settle {t} {t'} {gone} {rest} o v f f' =
-        stays hidden_or never (all_cut _ gone (t' ∷ rest) o.away).1.1 f' (cut gone o.walk).1
-      where
-        never : (a c b : ℕ) → c ≢ t → Hidden a c → Seen c b → ⊥
-        never a c b n i j = n (one_before L _ _ _ (after_hidden i j) (after_hidden f (first v)))
 
     grown : {ring : List ℕ} {t t' : ℕ} {gone rest : List ℕ} → Loop m s t' (rest ++ t ∷ gone) → Walk Seen t gone t' → Walk Hidden t' rest t
         → Turned ring (t' ∷ rest ++ t ∷ gone) → Grown m s ring x

@@ -1,17 +1,14 @@
 -- Lists of names: when their marks are different and below the count.
-use Rattle.std.proofs.Common.{◌≡◌, ℕ, zero, suc, ◌+◌, ◌<◌, ◌≤◌, max, Bool, true, false, not, ◌&&◌, T, eqb, ltb, ◌≢◌, List, [], ◌∷◌, length, take, sym, refl, ap, ◌∙◌, subst, add-one, arith, ltb→lt, T_not, lt-ltb, ne_eqb}
+use Rattle.std.proofs.Common.{ℕ, suc, ◌<◌, Bool, true, false, not, ◌&&◌, T, eqb, ltb, ◌≢◌, List, [], ◌∷◌, length, sym, subst, arith, ltb→lt, lt→ltb, T_not, ne_eqb}
 use lib.Dec.{eqb_refl}
 use Rattle.std.specs.List.{AllByRecursion}
 use Rattle.laws.specs.Outlines.{Apart}
-use Rattle.laws.specs.Layers.{named, fresh, different, unlike, past}
+use Rattle.laws.specs.Layers.{named, fresh, different}
 
 pub both : (a b : Bool) → T (a && b) → T a × T b
 both true true h = (tt, tt)
 both true false h = absurd h
 both false b h = absurd h
-
-below : (x n : ℕ) → x < n → T (ltb x n)
-below x n h = subst T (sym (lt-ltb x n h)) tt
 
 pub and : (a b : Bool) → T a → T b → T (a && b)
 and true true h k = tt
@@ -33,32 +30,12 @@ different_apart n (x ∷ xs) h =
     let (a, s) = different_apart n xs d in
     ((fresh_all x xs f, a), (ltb→lt x n i, s))
 
--- the test goes by the largest mark, and by whether one stands twice
-pub different_past : (n : ℕ) (xs : List ℕ) → T (different n xs) → past xs ≤ n
-different_past n [] h = omega arith
-different_past n (x ∷ xs) h =
-    let (i, k) = both (ltb x n) (fresh x xs && different n xs) h in
-    omega (arith, ltb→lt x n i, different_past n xs (both (fresh x xs) (different n xs) k).1)
-
-pub different_unlike : (n : ℕ) (xs : List ℕ) → T (different n xs) → T (unlike xs)
-different_unlike n [] h = tt
-different_unlike n (x ∷ xs) h =
-    let (f, d) = both (fresh x xs) (different n xs) (both (ltb x n) (fresh x xs && different n xs) h).1 in
-    and (fresh x xs) (unlike xs) f (different_unlike n xs d)
-
-pub unlike_different : (n : ℕ) (xs : List ℕ) → T (unlike xs) → past xs ≤ n → T (different n xs)
-unlike_different n [] h k = tt
-unlike_different n (x ∷ xs) h k =
-    let (f, u) = both (fresh x xs) (unlike xs) h in
-    and (ltb x n) (fresh x xs && different n xs) (below x n (omega arith))
-    (and (fresh x xs) (different n xs) f (unlike_different n xs u (omega arith)))
-
 -- a list passes if each of its marks is below n and no two of them are alike
 pub different_if : (n : ℕ) (xs : List ℕ) → ((i : ℕ) → i < length xs → named xs i < n)
     → ((i j : ℕ) → i < j → j < length xs → named xs i ≢ named xs j) → T (different n xs)
 different_if n [] small apart = tt
 different_if n (x ∷ xs) small apart =
-    and (ltb x n) (fresh x xs && different n xs) (below x n (small 0 (omega arith)))
+    and (ltb x n) (fresh x xs && different n xs) (lt→ltb x n (small 0 (omega arith)))
     (and (fresh x xs) (different n xs) (unseen xs (λ j h. apart 0 (suc j) (omega arith) (omega arith)))
     (different_if n xs (λ i h. small (suc i) (omega arith)) (λ i j h k. apart (suc i) (suc j) (omega arith) (omega arith))))
   where
@@ -66,17 +43,3 @@ different_if n (x ∷ xs) small apart =
     unseen [] h = tt
     unseen (y ∷ ys) h =
         and (not (eqb x y)) (fresh x ys) (subst (λ b. T (not b)) (sym (ne_eqb x y (h 0 (omega arith)))) tt) (unseen ys (λ j k. h (suc j) (omega arith)))
-
--- one more mark
-pub past_more : (xs : List ℕ) (i : ℕ) → i < length xs → past (take (i + 1) xs) ≡ max (named xs i + 1) (past (take i xs))
-past_more xs i h = ap (λ k. past (take k xs)) (add-one i) ∙ go xs i h
-  where
-    go : (ys : List ℕ) (j : ℕ) → j < length ys → past (take (suc j) ys) ≡ max (named ys j + 1) (past (take j ys))
-    go [] j k = absurd (omega arith)
-    go (y ∷ ys) zero k = refl
-    go (y ∷ ys) (suc j) k = let e = go ys j (omega arith) in omega arith
-
-pub past_at : (xs : List ℕ) (i : ℕ) → i < length xs → named xs i < past xs
-past_at [] i h = absurd (omega arith)
-past_at (x ∷ xs) zero h = omega arith
-past_at (x ∷ xs) (suc i) h = let k = past_at xs i (omega arith) in omega arith

@@ -1,7 +1,7 @@
 -- The theorems of specs/Theory.antt.
-use Rattle.std.proofs.Common.{Bool, true, false, ◌⊎◌, inl, inr}
+use Rattle.std.proofs.Common.{Bool, true, false, T, ◌⊎◌, inl, inr}
 use mathlib.Core.Logic.Iff
-use Rattle.laws.specs.Theorems.{of, MirrorLaw, SomeHidden, Insertion, Fan, ThreeOrMore, Existence, Uniqueness, GoesByTurns, Mirrored, Picked, Piled}
+use Rattle.laws.specs.Theorems.{MirrorLaw, SomeHidden, Insertion, Fan, ThreeOrMore, Existence, Uniqueness, GoesByTurns, Mirrored, Picked, Piled}
 use Rattle.laws.proofs.Turns.{transitive'}
 use Rattle.laws.proofs.Walks.{steps}
 use Rattle.laws.proofs.Arcs.{not_all}
@@ -30,7 +30,7 @@ fan m s h l x L marks r inside =
 pub three : ThreeOrMore
 three m s l x L o h n = three_or_more L o h n
 
-tested : (b : Bool) → of (λ _. b) 0 ⊎ (of (λ _. b) 0 → ⊥)
+pub tested : (b : Bool) → T b ⊎ (T b → ⊥)
 tested true = inl tt
 tested false = inr (λ h. h)
 

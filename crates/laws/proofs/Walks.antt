@@ -50,15 +50,6 @@ pub walk_all : {R : ℕ → ℕ → Type 0} {P : ℕ → Type 0} {a b : ℕ} {l 
 walk_all (end r) h k = end (r, h.0, k)
 walk_all (on r w) h k = on (r, h.0, h.1.0) (walk_all w h.1 k)
 
-pub walk_both : {R S : ℕ → ℕ → Type 0} {a b : ℕ} {l : List ℕ} → Walk R a l b → Walk S a l b → Walk (λ p q. R p q × S p q) a l b
-walk_both (end r) (end s) = end (r, s)
-walk_both (on r w) (on s v) = on (r, s) (walk_both w v)
-
--- the steps of a walk leave a and the marks of l, and come to the marks of l and b
-pub walk_ends : {R : ℕ → ℕ → Type 0} {P Q : ℕ → Type 0} {a b : ℕ} {l : List ℕ} → Walk R a l b → AllByRecursion P (a ∷ l) → AllByRecursion Q (l ++ b ∷ []) → Walk (λ p q. R p q × P p × Q q) a l b
-walk_ends (end r) h k = end (r, h.0, k.0)
-walk_ends (on r w) h k = on (r, h.0, k.0) (walk_ends w h.1 k.1)
-
 module _ {R : ℕ → ℕ → Type 0} where
   pub first : {a b : ℕ} {l : List ℕ} → Walk R a l b → R a (after l b)
   first (end r) = r

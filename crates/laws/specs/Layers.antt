@@ -1,5 +1,5 @@
 -- Layers over a system: mirrors and renamings, and piles of them.
-use Rattle.std.specs.Prelude.{◌≡◌, ℕ, ◌+◌, max, Bool, true, false, cond, not, ◌&&◌, List, [], ◌∷◌, reverse, length, ◌==◌, nat_le, nat_lt, slice_index}
+use Rattle.std.specs.Prelude.{◌≡◌, ℕ, Bool, true, false, cond, not, ◌&&◌, List, [], ◌∷◌, reverse, length, ◌==◌, nat_le, nat_lt, slice_index}
 use Rattle.laws.specs.Systems.{Meaning}
 
 -- left for right
@@ -32,16 +32,6 @@ fresh x (y ∷ ys) = not (x == y) && fresh x ys
 abbrev pub different : ℕ → List ℕ → Bool
 different n [] = true
 different n (x ∷ xs) = nat_lt x n && (fresh x xs && different n xs)
-
--- no mark stands twice
-abbrev pub unlike : List ℕ → Bool
-unlike [] = true
-unlike (x ∷ xs) = fresh x xs && unlike xs
-
--- one past the largest mark
-abbrev pub past : List ℕ → ℕ
-past [] = 0
-past (x ∷ xs) = max (x + 1) (past xs)
 
 -- a renaming is accepted if it has at most 128 entries, different marks of the system below
 abbrev pub namable : Meaning → List ℕ → Bool

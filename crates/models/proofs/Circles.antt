@@ -91,7 +91,17 @@ far_centre c t x y =
     (square (var 0 ⊗ var 1 ⊝ (var 0 ⊗ var 1 ⊕ var 3)) ⊕ square (var 0 ⊗ var 2 ⊝ (var 0 ⊗ var 2 ⊕ var 4)))
     (square (var 3) ⊕ square (var 4)) tt
 
--- X, Y and d of the rows (a, b) and (k, l)
+-- d, X and Y below, over the variables 0 to 3 for a, b, k and l
+abbrev de : Expr
+de = var 0 ⊗ var 3 ⊝ var 1 ⊗ var 2
+
+abbrev Xe : Expr
+Xe = (square (var 0) ⊕ square (var 1)) ⊗ var 3 ⊝ (square (var 2) ⊕ square (var 3)) ⊗ var 1
+
+abbrev Ye : Expr
+Ye = var 0 ⊗ (square (var 2) ⊕ square (var 3)) ⊝ var 2 ⊗ (square (var 0) ⊕ square (var 1))
+
+-- d, X and Y of the rows (a, b) and (k, l)
 module _ (a b k l : ℤ) where
   abbrev d : ℤ
   d = a *ℤ l -ℤ b *ℤ k
@@ -103,22 +113,10 @@ module _ (a b k l : ℤ) where
   Y = a *ℤ (k *ℤ k +ℤ l *ℤ l) -ℤ k *ℤ (a *ℤ a +ℤ b *ℤ b)
 
   first_on : round (d +ℤ d) X Y a b ≡ X *ℤ X +ℤ Y *ℤ Y
-  first_on =
-      let e : Expr = var 0 ⊗ var 3 ⊝ var 1 ⊗ var 2 in
-      let w : Expr = square (var 0) ⊕ square (var 1) in
-      let w' : Expr = square (var 2) ⊕ square (var 3) in
-      let x : Expr = w ⊗ var 3 ⊝ w' ⊗ var 1 in
-      let y : Expr = var 0 ⊗ w' ⊝ var 2 ⊗ w in
-      solve (at (a ∷ b ∷ k ∷ l ∷ [])) (square ((e ⊕ e) ⊗ var 0 ⊝ x) ⊕ square ((e ⊕ e) ⊗ var 1 ⊝ y)) (square x ⊕ square y) tt
+  first_on = solve (at (a ∷ b ∷ k ∷ l ∷ [])) (away (de ⊕ de) Xe Ye (record { x = var 0; y = var 1 })) (square Xe ⊕ square Ye) tt
 
   second_on : round (d +ℤ d) X Y k l ≡ X *ℤ X +ℤ Y *ℤ Y
-  second_on =
-      let e : Expr = var 0 ⊗ var 3 ⊝ var 1 ⊗ var 2 in
-      let w : Expr = square (var 0) ⊕ square (var 1) in
-      let w' : Expr = square (var 2) ⊕ square (var 3) in
-      let x : Expr = w ⊗ var 3 ⊝ w' ⊗ var 1 in
-      let y : Expr = var 0 ⊗ w' ⊝ var 2 ⊗ w in
-      solve (at (a ∷ b ∷ k ∷ l ∷ [])) (square ((e ⊕ e) ⊗ var 2 ⊝ x) ⊕ square ((e ⊕ e) ⊗ var 3 ⊝ y)) (square x ⊕ square y) tt
+  second_on = solve (at (a ∷ b ∷ k ∷ l ∷ [])) (away (de ⊕ de) Xe Ye (record { x = var 2; y = var 3 })) (square Xe ⊕ square Ye) tt
 
 module _ (c p q : Place) where
   abbrev t : ℤ

@@ -2,7 +2,7 @@
 use Rattle.std.proofs.Common.{◌≡◌, ℕ, zero, suc, ◌<◌, ◌≤◌, Bool, true, false, cond, ◌&&◌, T, eqb, ◌≢◌, List, length, get_or, sym, refl, ap, ◌∙◌, subst, arith, eqb→eq, eq-eqb, ne_eqb}
 use native.Mathlib.Decide.{ℕ_discrete, dec_lt}
 use Rattle.models.specs.Networks.{across, wire, upper, lower, Cross, InRange, Legal, first, crossing}
-use Rattle.models.proofs.Tests.{and_left, and_right}
+use Rattle.laws.proofs.Names.{both as both_true}
 
 -- what a crossing does to a place
 pub data Across (k p : ℕ) : ℕ → Type 0 where
@@ -71,10 +71,6 @@ wire_in n cs zero range p h = h
 wire_in n cs (suc t) range p h =
     wire_in n cs t (λ s k. range s (omega arith)) (across (get_or cs t 0) p) (stays_in (moved (get_or cs t 0) p) (range t (omega arith)) h)
 
--- places of different wires are different
-place_apart : (cs : List ℕ) (t i j : ℕ) → i ≢ j → place cs t i ≢ place cs t j
-place_apart cs t i j h e = h (sym (wire_place cs t i) ∙ ap (wire cs t) e ∙ wire_place cs t j)
-
 -- the first number that passes a test
 pub first_none : (f : ℕ → Bool) (n s : ℕ) → s < first f n → T (f s) → ⊥
 first_none f zero s h t = absurd (omega arith)
@@ -119,8 +115,8 @@ module _ (cs : List ℕ) where
       let passes = first_is (λ t. eqb (upper cs t) i && eqb (lower cs t) j) (length cs) h in
       record {
         within = h;
-        above = eqb→eq (upper cs t) i (and_left (eqb (upper cs t) i) (eqb (lower cs t) j) passes);
-        below = eqb→eq (lower cs t) j (and_right (eqb (upper cs t) i) (eqb (lower cs t) j) passes);
+        above = eqb→eq (upper cs t) i (both_true (eqb (upper cs t) i) (eqb (lower cs t) j) passes).0;
+        below = eqb→eq (lower cs t) j (both_true (eqb (upper cs t) i) (eqb (lower cs t) j) passes).1;
       }
 
   not_before : (i j t : ℕ) → t < crossing cs i j → upper cs t ≡ i → lower cs t ≡ j → ⊥

@@ -2,7 +2,8 @@
 use Rattle.std.proofs.Common.{◌≡◌, ℕ, zero, suc, ◌+◌, ◌-◌, ◌*◌, ◌≤◌, Bool, ◌&&◌, T, eqb, leb, refl, ap, ◌∙◌, mul_comm, mul-add, sub-one, arith, eqb→eq, leb→le}
 use Rattle.models.specs.Threes.{pairs, threes, pairs_of, threes_of}
 use Rattle.models.specs.Catalogue.{all}
-use Rattle.models.proofs.Tests.{all_at, and_left, and_right}
+use Rattle.laws.proofs.Names.{both}
+use Rattle.models.proofs.Tests.{all_at}
 
 double : (n : ℕ) → 2 * pairs n ≡ n * (n - 1)
 double zero = refl
@@ -37,8 +38,8 @@ threes_computed = tt
 
 pub threes_is : (n : ℕ) → n ≤ 24 → threes n ≡ threes_of n
 unfolding threes_right
-threes_is n h = eqb→eq (threes n) (threes_of n) (and_left (eqb (threes n) (threes_of n)) _ (all_at 25 threes_right threes_computed n (omega arith)))
+threes_is n h = eqb→eq (threes n) (threes_of n) (both (eqb (threes n) (threes_of n)) _ (all_at 25 threes_right threes_computed n (omega arith))).0
 
 pub threes_few : (n : ℕ) → n ≤ 24 → threes_of n ≤ 2024
 unfolding threes_right
-threes_few n h = leb→le (threes_of n) 2024 (and_right (eqb (threes n) (threes_of n)) _ (all_at 25 threes_right threes_computed n (omega arith)))
+threes_few n h = leb→le (threes_of n) 2024 (both (eqb (threes n) (threes_of n)) _ (all_at 25 threes_right threes_computed n (omega arith))).1

@@ -7,7 +7,8 @@ use Rattle.models.specs.Threes.{table, table_turns, each_three, threes}
 use Rattle.models.specs.Rising.{Rising, Below, Group, LawfulAmong, AllLawful}
 use Rattle.models.specs.Catalogue.{bits, value, four, five, keeps4, keeps, lawful_four, lawful_five, at, through, pattern}
 use Rattle.models.proofs.Spread.{Agree, spread_agree, spread_through}
-use Rattle.models.proofs.Tests.{Interior, Transitive, and_left, and_right, and_both, interior, interior_tested, transitive, transitive_tested}
+use Rattle.laws.proofs.Names.{both, and}
+use Rattle.models.proofs.Tests.{Interior, Transitive, interior, interior_tested, transitive, transitive_tested}
 use Rattle.models.proofs.Sort.{mem_at, rises, placed}
 use Rattle.models.proofs.Carry.{interior_by, transitive_by, interior_in, transitive_in, left_of, lawful_by}
 use Rattle.models.proofs.Lists.{length_three, read_three, bits_value}
@@ -26,9 +27,9 @@ module _ (g : Turns) (n : ℕ) (limit : n ≤ 128) where
   pub lawful_tested : T (keeps n (spread g)) ↔ Lawful (system n g)
   lawful_tested = (
     λ t. lawful_by g n limit
-        (interior n (spread g) (and_left (keeps4 n (spread g)) _ t))
-        (transitive n (spread g) (and_right (keeps4 n (spread g)) _ t)),
-    λ law. and_both (keeps4 n (spread g)) _
+        (interior n (spread g) (both (keeps4 n (spread g)) _ t).0)
+        (transitive n (spread g) (both (keeps4 n (spread g)) _ t).1),
+    λ law. and (keeps4 n (spread g)) _
         (interior_tested n (spread g) (interior_of g n law))
         (transitive_tested n (spread g) (transitive_of g n law)),
   )

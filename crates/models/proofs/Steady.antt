@@ -1,9 +1,9 @@
 -- Turns of which the four of each rising i<j<k<l, ijk, ijl, ikl and jkl, change sign at most once are lawful.
-use Rattle.std.proofs.Common.{ℕ, ◌<◌, ◌≤◌, Bool, cond, not, ◌&&◌, ◌||◌, T, List, length, subst, arith, lit≤}
+use Rattle.std.proofs.Common.{ℕ, ◌^◌, ◌<◌, ◌≤◌, Bool, cond, not, ◌&&◌, ◌||◌, T, List, length, subst, arith, lit≤}
 use mathlib.Core.Bool.{beq}
 use Rattle.laws.specs.Systems.{Lawful}
 use Rattle.models.specs.Spread.{Turns, system}
-use Rattle.models.specs.Threes.{table_turns, each_three}
+use Rattle.models.specs.Threes.{table_turns, each_three, threes}
 use Rattle.models.specs.Catalogue.{bits, value, all, at, through, lawful_four, lawful_five}
 use Rattle.models.specs.Rising.{Rising, Below, Group}
 use Rattle.models.proofs.Spread.{Agree}
@@ -31,36 +31,25 @@ steady_agree n g h agree s i j k l x y z w =
     (λ t. steady (agree i j k x y (omega arith) t) (agree i j l x (omega arith) w t) (agree i k l (omega arith) z w t) (agree j k l y z w t))
     (s i j k l x y z w)
 
--- each steady pattern is lawful: two computed tests
-test4 : ℕ → Bool
-test4 p = let lawful = lawful_four p in not (all_steady 4 (table_turns 4 (bits 4 p))) || lawful
+-- each steady pattern of n marks is lawful: one computed test for each n
+right : ℕ → (ℕ → Bool) → ℕ → Bool
+right n law p = let lawful = law p in not (all_steady n (table_turns n (bits (threes n) p))) || lawful
 
-computed4 : T (all 16 test4)
-unfolding test4
-computed4 = tt
+right_four : T (all 16 (right 4 lawful_four))
+unfolding right
+right_four = tt
 
-steady_four : (h : Turns) → Steady 4 h → T (lawful_four (value (each_three 4 h)))
-unfolding test4
-steady_four h s =
-    let p = value (each_three 4 h) in
-    let g = table_turns 4 (bits 4 p) in
-    implies (all_steady 4 g) (lawful_four p) (all_at 16 test4 computed4 p (value_below (each_three 4 h)))
-    (steady_tested 4 g (steady_agree 4 h g (agree_back 4 g h (pattern_agree 4 h)) s))
+right_five : T (all 1024 (right 5 lawful_five))
+unfolding right
+right_five = tt
 
-test5 : ℕ → Bool
-test5 p = let lawful = lawful_five p in not (all_steady 5 (table_turns 5 (bits 10 p))) || lawful
-
-computed5 : T (all 1024 test5)
-unfolding test5
-computed5 = tt
-
-steady_five : (h : Turns) → Steady 5 h → T (lawful_five (value (each_three 5 h)))
-unfolding test5
-steady_five h s =
-    let p = value (each_three 5 h) in
-    let g = table_turns 5 (bits 10 p) in
-    implies (all_steady 5 g) (lawful_five p) (all_at 1024 test5 computed5 p (value_below (each_three 5 h)))
-    (steady_tested 5 g (steady_agree 5 h g (agree_back 5 g h (pattern_agree 5 h)) s))
+steady_right : (n : ℕ) (law : ℕ → Bool) (h : Turns) → T (all (2 ^ length (each_three n h)) (right n law)) → Steady n h → T (law (value (each_three n h)))
+unfolding right
+steady_right n law h computed s =
+    let p = value (each_three n h) in
+    let g = table_turns n (bits (threes n) p) in
+    implies (all_steady n g) (law p) (all_at (2 ^ length (each_three n h)) (right n law) computed p (value_below (each_three n h)))
+    (steady_tested n g (steady_agree n h g (agree_back n g h (pattern_agree n h)) s))
 
 steady_through : (n : ℕ) (g : Turns) (xs : List ℕ) → Rising xs → Below n xs → Steady n g → Steady (length xs) (through (at xs) g)
 steady_through n g xs rising below s i j k l x y z w =
@@ -70,8 +59,8 @@ steady_through n g xs rising below s i j k l x y z w =
 -- turns that are steady are lawful
 pub steady_lawful : (n : ℕ) (g : Turns) → n ≤ 128 → Steady n g → Lawful (system n g)
 steady_lawful n g limit s = lawful_from g n limit
-    (λ xs group. (among_pattern g n 4 (lit≤ tt) xs group).1 ((four_tested _).0 (steady_four (through (at xs) g) (steady_in 4 xs group))))
-    (λ xs group. (among_pattern g n 5 (lit≤ tt) xs group).1 ((five_tested _).0 (steady_five (through (at xs) g) (steady_in 5 xs group))))
+    (λ xs group. (among_pattern g n 4 (lit≤ tt) xs group).1 ((four_tested _).0 (steady_right 4 lawful_four (through (at xs) g) right_four (steady_in 4 xs group))))
+    (λ xs group. (among_pattern g n 5 (lit≤ tt) xs group).1 ((five_tested _).0 (steady_right 5 lawful_five (through (at xs) g) right_five (steady_in 5 xs group))))
   where
     steady_in : (k : ℕ) (xs : List ℕ) → Group k n xs → Steady k (through (at xs) g)
     steady_in k xs group = subst (λ m. Steady m (through (at xs) g)) group.long (steady_through n g xs group.rising group.below s)

@@ -62,7 +62,7 @@ one_star ps (report.refused f lt r) (report.refused g lt' r') = let e = one_star
 -- the ring of all points is taped, and one length is told
 measured : (ps : List Place) (ring : List ℕ) (total : ℕ) → Lawful (plane ps) → RingOf (plane ps) (first (length ps)) ring → Taped ps ring total → TapeMeasured ps ring total
 measured ps ring total L r t =
-    let few = ring_few (plane ps) (first (length ps)) (first_marks (plane ps) (length ps) (omega arith)) ring r in
+    let few = ring_few (plane ps) ring r in
     record {
       few = omega (arith, few, L.limit);
       marks = λ i lt strange. omega (arith, strange, ltb→lt _ (length ps) (ring_in L r (i, lt, refl)));
@@ -86,7 +86,7 @@ one_told k n vs (report.told j a s) (report.refused f h) = absurd (not_judged k 
 one_told k n vs (report.told {ring = ring} {rest = rest} j a s) (report.told {ring = ring'} {rest = rest'} j' a' s') =
     let L = accepted_lawful k n vs j in
     let m = system k n vs in
-    let marks = first_marks m m.count (omega arith) in
+    let marks = first_marks m in
     let same : ring ≡ ring' = ring_same L marks a.is_ring a'.is_ring in
     let rounds = entries_same L marks a.are_rounds a'.are_rounds in
     let more : rest ≡ rest' = one_section k n vs ring L a.is_ring s (subst (λ l. Sections k vs l rest') (sym same) s') in

@@ -19,7 +19,7 @@ use Rattle.opening.specs.Opening.{Judged, Opens, Refused, count_of, kind_of, mea
 use Rattle.reports.specs.Reports as report
 use Rattle.reports.proofs.Texts.{from_empty}
 use Rattle.reports.specs.Reports.{Adds, Reports, Sections, StarTold, TapeTold, Told, of_network, of_points, of_table, told}
-use Rattle.reports.proofs.Adding.{first_marks, ring_few}
+use Rattle.reports.proofs.Adding.{ring_few}
 
 -- the first points of a star's pairs rise, so there are no more pairs than points
 climbs : (ps : List Place) (c : ℕ) (l : List (ℕ × ℕ)) → StarPairs ps c l → (k : ℕ) → k < length l → k ≤ (pair l k).0
@@ -37,7 +37,7 @@ star_fits ps c f small (tight {l = l} _ s lt) = absurd (pairs_few ps c l s (omeg
 -- the ring of all points is taped
 pub tape_fits : (ps : List Place) (ring : List ℕ) (f : Fault) → Lawful (plane ps) → RingOf (plane ps) (first (length ps)) ring → TapeRefused ps ring f → ⊥
 tape_fits ps ring f L r h =
-    let i = ring_few (plane ps) (first (length ps)) (first_marks (plane ps) (length ps) (omega arith)) ring r in
+    let i = ring_few (plane ps) ring r in
     let j = L.limit in
     let s = h.strange (omega arith) in
     let k = ltb→lt _ (length ps) (ring_in L r (s.at, s.first.within, refl)) in

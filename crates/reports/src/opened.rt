@@ -11,7 +11,8 @@ ghost use Rattle.reports.specs.Reports.{Adds, StarTold, TapeTold, Told};
 use super::layering::layers_of;
 use super::layers::ConvexLayers;
 use super::lines::{write_length, write_line, write_pairs, write_rounds, write_star_refusal};
-use cc::CcSystem;
+use arrayvec::ArrayVec;
+use cc::{CcSystem, LIMIT};
 use opening::Opened;
 use sections::delaunay::star;
 use sections::tapes::tape;
@@ -37,9 +38,12 @@ fn write_star(out: &mut String, points: &Points<'_>) -> Result<(), AllocError>
     if points.count() == 0 {
         return Ok(());
     }
-    let mut pairs = [(0, 0); 128];
+    let mut pairs = ArrayVec::from([(0, 0); LIMIT]);
     match star(points, 0, &mut pairs) {
-        Ok(n) => write_pairs(out, &pairs[..n]),
+        Ok(len) => {
+            pairs.truncate(len);
+            write_pairs(out, &pairs)
+        }
         Err(fault) => write_star_refusal(out, fault),
     }
 }

@@ -1,5 +1,5 @@
 -- Two readings that agree on the marks that are in have the same answers to the questions.
-use Rattle.std.proofs.Common.{◌≡◌, ℕ, ◌<◌, ◌≤◌, Bool, T, ◌⊎◌, List, ◌++◌, length, get_or, drop as behind, sym, refl, ◌∙◌, subst}
+use Rattle.std.proofs.Common.{◌≡◌, ℕ, ◌<◌, ◌≤◌, Bool, T, ◌⊎◌, List, ◌++◌, length, get_or, drop as behind, sym, ◌∙◌, subst}
 use mathlib.Core.Logic.Iff
 use Rattle.laws.specs.Systems.{Meaning, Lawful}
 use Rattle.laws.specs.Outlines.{Marks}
@@ -11,10 +11,6 @@ use Rattle.runs.specs.Runs.{Agree, Question, place?, neighbours?, outline?, roun
 use Rattle.laws.proofs.Existence.{outline_same}
 use Rattle.runs.proofs.Standing.{outline_in, hull_beside}
 use Rattle.runs.proofs.OneAnswer.{one_answer}
-
--- a reading agrees with one that is the same
-pub agree_same : {m m' : Meaning} → m ≡ m' → (s : ℕ → Bool) → Agree m m' s
-agree_same {m} e s = subst (λ n. Agree m n s) e (record { count = refl; turns = λ p q r hp hq hr. Iff.rfl })
 
 module _ {m m' : Meaning} where
   pub agree_marks : {s : ℕ → Bool} → Agree m m' s → Marks m (of s) → Marks m' (of s)

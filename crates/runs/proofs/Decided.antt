@@ -1,10 +1,11 @@
 -- What the answers are made of is decided by the marks that are in.
-use Rattle.std.proofs.Common.{◌≡◌, ℕ, suc, ◌<◌, ◌≤◌, Bool, true, false, T, ◌⊎◌, ◌↔◌, List, get_or, sym, refl, ap, ◌∙◌, subst, inl, inr, arith, ext_get_or}
+use Rattle.std.proofs.Common.{◌≡◌, ℕ, suc, ◌<◌, ◌≤◌, Bool, true, false, T, ◌↔◌, List, get_or, sym, refl, ap, ◌∙◌, subst, inl, inr, arith, ext_get_or}
 use mathlib.Core.Path.{fun_ext}
 use Rattle.laws.specs.Systems.{Meaning, Lawful}
 use Rattle.laws.specs.Outlines.{Marks, Follows, Outline, none, one, more}
 use Rattle.laws.specs.Theorems.{of}
 use Rattle.runs.specs.Calls.{Side, edge, inside, On, RingOf, OneMore, Lacking, none as all_there, there, gone, Stands, Fan, fan, Peeled, outer, inner, Rounds}
+use Rattle.laws.proofs.Theorems.{tested}
 use Rattle.laws.proofs.Walks.{other}
 use Rattle.laws.proofs.Arcs.{one_after, one_before}
 use Rattle.laws.proofs.Fans.{one_around}
@@ -19,10 +20,6 @@ test_same false false f g = refl
 
 pub set_same : {s t : ℕ → Bool} → ((p : ℕ) → T (s p) ↔ T (t p)) → s ≡ t
 set_same {s} {t} f = fun_ext (λ p. test_same (s p) (t p) (f p).0 (f p).1)
-
-pub tested : (b : Bool) → T b ⊎ (T b → ⊥)
-tested true = inl tt
-tested false = inr (λ h. h)
 
 -- s with x is one set, and s without x is one set
 pub more_same : {s t t' : ℕ → Bool} {x : ℕ} → OneMore s x t → OneMore s x t' → t ≡ t'

@@ -15,16 +15,16 @@ use Rattle.runs.proofs.Decided.{more_same, less_same, more_marks, less_marks, la
 pub add_needs_none : {x y : ℕ} → NeedsIn (add x) y → ⊥
 add_needs_none h = elim h [ ]
 
-outline_needs_none : {l : List ℕ} {y : ℕ} → NeedsIn (outline l) y → ⊥
+pub outline_needs_none : {l : List ℕ} {y : ℕ} → NeedsIn (outline l) y → ⊥
 outline_needs_none h = elim h [ ]
 
-rounds_needs_none : {l : List ℕ} {y : ℕ} → NeedsIn (rounds l) y → ⊥
+pub rounds_needs_none : {l : List ℕ} {y : ℕ} → NeedsIn (rounds l) y → ⊥
 rounds_needs_none h = elim h [ ]
 
-outline_asks_none : {l : List ℕ} {y : ℕ} → Asks (outline l) y → ⊥
+pub outline_asks_none : {l : List ℕ} {y : ℕ} → Asks (outline l) y → ⊥
 outline_asks_none h = elim h [ ]
 
-rounds_asks_none : {l : List ℕ} {y : ℕ} → Asks (rounds l) y → ⊥
+pub rounds_asks_none : {l : List ℕ} {y : ℕ} → Asks (rounds l) y → ⊥
 rounds_asks_none h = elim h [ ]
 
 module _ {m : Meaning} (L : Lawful m) (s : ℕ → Bool) (marks : Marks m (of s)) where

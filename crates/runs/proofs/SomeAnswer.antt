@@ -1,6 +1,8 @@
 -- Every call has an answer.
-use Rattle.std.proofs.Common.{◌≡◌, ℕ, zero, suc, ◌+◌, ◌<◌, ◌≤◌, Bool, true, false, cond, T, ◌≢◌, ◌⊎◌, ◌↔◌, List, [], ◌∷◌, length, get_or, sym, refl, ap, ◌∙◌, subst, inl, inr, arith}
+use Rattle.std.proofs.Common.{◌≡◌, ℕ, zero, suc, ◌+◌, ◌<◌, ◌≤◌, Bool, true, false, cond, T, ◌≢◌, ◌⊎◌, ◌↔◌, List, [], ◌∷◌, map, length, get_or, sym, refl, ◌∙◌, subst, inl, inr, arith}
 use native.Mathlib.Decide.{dec_le, dec_lt}
+use Rattle.std.specs.List.{range_with_len}
+use Rattle.std.proofs.lemmas.List.FromFn.{get_or-map-range_with_len, length-map-range_with_len}
 use Rattle.laws.specs.Systems.{Meaning, Lawful}
 use Rattle.laws.specs.Outlines.{Marks, Step, Follows, Outline, none}
 use Rattle.laws.specs.Theorems.{of}
@@ -10,7 +12,8 @@ use Rattle.runs.specs.Calls.{On, OneMore, Lacking, none as all_there, there, gon
 use Rattle.runs.specs.Calls.{Answers, adds, drops, stands, lies, has_beside, reads, counts, stranger, already_in, absent, off_the_edge, tight_ring, tight_rounds}
 use Rattle.laws.proofs.Walks.{other}
 use Rattle.runs.proofs.Standing.{outline_in}
-use Rattle.runs.proofs.Decided.{test_same, tested, more_marks, less_marks}
+use Rattle.laws.proofs.Theorems.{tested}
+use Rattle.runs.proofs.Decided.{test_same, more_marks, less_marks}
 use Rattle.runs.proofs.Histories.{OrNot, test, test_is, the_ring, the_fan}
 
 pub on_or : (l : List ℕ) (x : ℕ) → OrNot (On l x)
@@ -153,22 +156,6 @@ module _ (s t : ℕ → Bool) (sub : (p : ℕ) → T (t p) → T (s p)) where
         | inr e ↦ let i = size_lost n q (omega arith) h k in let w = lighter (t n) (s n) (sub n) in omega arith
       ]
 
--- a list by its entries
-table : (ℕ → ℕ) → ℕ → List ℕ
-table f zero = []
-table f (suc n) = f 0 ∷ table (λ i. f (suc i)) n
-
-table_length : (f : ℕ → ℕ) (n : ℕ) → length (table f n) ≡ n
-unfolding table
-table_length f zero = refl
-table_length f (suc n) = ap suc (table_length (λ i. f (suc i)) n)
-
-table_at : (f : ℕ → ℕ) (n i : ℕ) → i < n → get_or (table f n) i 0 ≡ f i
-unfolding table
-table_at f zero i lt = absurd (omega arith)
-table_at f (suc n) zero lt = refl
-table_at f (suc n) (suc i) lt = table_at (λ i. f (suc i)) n i (omega arith)
-
 -- the greatest of n entries
 greatest : (f : ℕ → ℕ) (n : ℕ) → (g : ℕ) × ((p : ℕ) → p < n → f p ≤ g) × ((g ≡ 0) ⊎ ((p : ℕ) × (p < n) × (f p ≡ g)))
 greatest f zero = (0, λ p lt. omega arith, inl refl)
@@ -214,15 +201,17 @@ module _ {m : Meaning} (L : Lawful m) where
   the_rounds s marks =
       let f : ℕ → ℕ = λ p. (entry s marks p).0 in
       let n = m.count in
+      let l = map f (range_with_len 0 n) in
+      let is : (p : ℕ) → p < n → get_or l p 0 ≡ f p = λ p lt. get_or-map-range_with_len f 0 n p p 0 lt (omega arith) in
       let (g, most, last) = greatest f n in (
-        table f n,
+        l,
         g,
         record {
-          all = table_length f n;
-          held = λ p lt h. subst (λ k. Peeled m s k p) (sym (table_at f n p lt)) ((entry s marks p).1 h);
-          out = λ p lt h. table_at f n p lt ∙ (entry s marks p).2 h;
-          most = λ p lt. subst (λ k. k ≤ g) (sym (table_at f n p lt)) (most p lt);
-          last = elim last [ inl e ↦ inl e | inr (p, lt, e) ↦ inr (p, lt, table_at f n p lt ∙ e) ];
+          all = length-map-range_with_len f 0 n;
+          held = λ p lt h. subst (λ k. Peeled m s k p) (sym (is p lt)) ((entry s marks p).1 h);
+          out = λ p lt h. is p lt ∙ (entry s marks p).2 h;
+          most = λ p lt. subst (λ k. k ≤ g) (sym (is p lt)) (most p lt);
+          last = elim last [ inl e ↦ inl e | inr (p, lt, e) ↦ inr (p, lt, is p lt ∙ e) ];
         },
       )
 
