@@ -25,7 +25,7 @@ pub enum Turn {
 
 impl Turn {
     // The other way.
-    // stays a method: `!turn` would say less
+    // stays a method: by `impl Not` it would be `!turn`, which does not say what is turned
     pub fn reversed(self) -> Turn
         ensures reversed { result ≡ other_way self }
     {

@@ -14,7 +14,7 @@ use shell::commands::{Call, Verb};
 // The call that a letter means.
 // stays a function: the letters are this tally's alone, and `Verb` is another crate's, so a `TryFrom` cannot stand here
 fn verb_of(byte: u8) -> Option<Verb>
-    ensures { MatchOption result ((v : Verb) → byte ≢ letter v) (λ v. byte ≡ letter v) }
+    ensures verb { MatchOption result ((v : Verb) → byte ≢ letter v) (λ v. byte ≡ letter v) }
 {
     match char::from(byte) {
         'a' => Some(Verb::Add),

@@ -28,8 +28,8 @@ impl HullState {
     pub(crate) fn flags(&self) -> [bool; LIMIT]
         ensures flags { (p : ℕ) → flagged result p ≡ held self.now.records p }
     {
-        // Stays a loop: `self.records.map(..)` copies the records first, which makes a drop on a small section a
-        // quarter slower.
+        // Stays a loop: `array::from_fn` was tried, and the proof did not close; and `self.records.map(..)` copies the records first, which
+        // made a drop on 16 marks a quarter slower.
         let mut flags = [false; LIMIT];
         for (mark, record) in self.records.iter().enumerate() {
             flags[mark] = record.is_in;

@@ -70,14 +70,14 @@ impl fmt::Display for Verb {
 // Whether the bytes are those of the word.
 // Stays: `bytes == b"census".as_slice()` at each place is no plainer.
 pub(crate) fn is(bytes: &[u8], word: &str) -> bool
-    ensures { MatchBool result (bytes.now ≡ word.now) (bytes.now ≢ word.now) }
+    ensures same { MatchBool result (bytes.now ≡ word.now) (bytes.now ≢ word.now) }
 {
     bytes == word.as_bytes()
 }
 
 // The call that a word names.
 fn verb_of(word: &[u8]) -> Option<Verb>
-    ensures { MatchOption result ((v : Verb) → word.now ≢ name v) (λ v. word.now ≡ name v) }
+    ensures verb { MatchOption result ((v : Verb) → word.now ≢ name v) (λ v. word.now ≡ name v) }
 {
     VERBS.iter().copied().find(|verb| is(word, verb.word()))
 }

@@ -15,7 +15,7 @@ use std::fmt::Write;
 
 // The first line, without the byte 10 that ends it, and what follows; none where nothing is left.
 fn next_line(text: &[u8]) -> Option<(&[u8], &[u8])>
-    ensures { MatchOption result (text.now ≡ []) (λ p. Begins text.now p.0.now p.1.now) }
+    ensures line { MatchOption result (text.now ≡ []) (λ p. Begins text.now p.0.now p.1.now) }
 {
     if text.is_empty() {
         return None;

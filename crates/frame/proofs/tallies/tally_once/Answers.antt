@@ -18,7 +18,7 @@ loop-letter-preserved-in_default g c =
     let is = ap (λ l. get_or l i []) c.as_chunks.ensures.front in
     let in_pairs : i < length calls / 2 = omega (arith, c.loop-letter-test.true, c.as_chunks.ensures.front_len) in (
       c.loop-letter.invariant.0,
-      passed_over m calls (held c.loop-letter.hull.state.records) c.loop-letter.total (drop (2 * i) calls) c.loop-letter.invariant.1 (get_or pair 0 0) (get_or pair 1 0) (drop (2 * (i + 1)) calls) (paired calls pair i in_pairs is) c.in_default.ensures,
+      passed_over m calls (held c.loop-letter.hull.state.records) c.loop-letter.total (drop (2 * i) calls) c.loop-letter.invariant.1 (get_or pair 0 0) (get_or pair 1 0) (drop (2 * (i + 1)) calls) (paired calls pair i in_pairs is) c.in_default.ensures.verb,
     )
 
 pub loop-letter-preserved : goal.loop-letter-preserved
@@ -37,7 +37,7 @@ loop-letter-preserved g c =
     let called = subst (λ (n : Meaning). Called n s t (call_of v k) answer) (ap g.S.CcSystem.meaning c.loop-letter.invariant.0) c.make-answer.ensures.called in (
       c.make-answer.ensures.system ∙ c.loop-letter.invariant.0,
       one_more_call m calls s c.loop-letter.total (drop (2 * i) calls) c.loop-letter.invariant.1 (get_or pair 0 0) k (drop (2 * (i + 1)) calls)
-          (paired calls pair i in_pairs is ∙ ap (λ n. get_or pair 0 0 ∷ n ∷ drop (2 * (i + 1)) calls) (sym c.from-number.ensures)) v t answer c.worth-total.result c.in-Some.ensures called c.worth-total.ensures.worth,
+          (paired calls pair i in_pairs is ∙ ap (λ n. get_or pair 0 0 ∷ n ∷ drop (2 * (i + 1)) calls) (sym c.from-number.ensures)) v t answer c.worth-total.result c.in-Some.ensures.verb called c.worth-total.ensures.worth,
     )
 
 pub returns-clause-total : goal.returns-clause-total

@@ -8,4 +8,6 @@ use Rattle.shell.proofs.commands.verb_of.Goals as goal
 pub returns : goal.returns
 returns c =
     let word = c.args.word.now in
-    found_word word c.find.result (first_from_find _ _ c.find.result (λ v. word ≡ name v) (λ v. word ≢ name v) c.find.ensures.ran (YieldsList-from_copied (YieldsList-from_slice verbs (search rules))) (λ x q k. search (rules, tests)) (λ x q k. search (rules, tests)))
+    record {
+      verb = found_word word c.find.result (first_from_find _ _ c.find.result (λ v. word ≡ name v) (λ v. word ≢ name v) c.find.ensures.ran (YieldsList-from_copied (YieldsList-from_slice verbs (search rules))) (λ x q k. search (rules, tests)) (λ x q k. search (rules, tests)));
+    }

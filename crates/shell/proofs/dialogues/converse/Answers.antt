@@ -17,7 +17,7 @@ loop-line-init g c =
     )
 
 pub loop-line-smaller : goal.loop-line-smaller
-loop-line-smaller g c = rest_shorter c.in-Some.ensures
+loop-line-smaller g c = rest_shorter c.in-Some.ensures.line
 
 pub loop-line-preserved : goal.loop-line-preserved
 loop-line-preserved g c =
@@ -25,7 +25,7 @@ loop-line-preserved g c =
     let s = held c.loop-line.hull.state.records in
     let t = held c.exchange.new.hull.state.records in
     let e = c.in_ok-exchange.ensures.exchanged in
-    let begins = c.in-Some.ensures in
+    let begins = c.in-Some.ensures.line in
     let exchange = subst (λ (n : Meaning). Exchange n s t c.loop-line.number c.in-Some.line.now e.printed) (ap g.S.CcSystem.meaning c.loop-line.invariant.0) e.exchange in (
       c.exchange.ensures.system ∙ c.loop-line.invariant.0,
       omega (arith, rest_shorter begins, c.loop-line.invariant.1),
@@ -38,7 +38,7 @@ returns g c =
     let m = g.S.CcSystem.meaning c.over-hull.result.system in
     let s = held c.loop-line.hull.state.records in
     let script = c.args.script.now in
-    let none = c.in_default.ensures in
+    let none = c.in_default.ensures.line in
     record {
       dialogue = subst (λ (n : Meaning). Dialogue n (λ _. false) 1 script (string_bytes c.loop-line.out)) (ap g.S.CcSystem.meaning c.over-hull.ensures.system)
           (whole_text (string_bytes c.loop-line.out) (Dialogue m (λ _. false) 1 script) (c.loop-line.invariant.2 [] (subst (λ l. Dialogue m s c.loop-line.number l []) (sym none) end)));
