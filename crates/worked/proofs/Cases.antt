@@ -1,5 +1,6 @@
 -- The worked sections.
-use Rattle.std.proofs.Common.{ℕ, ◌<◌, Bool, true, false, not, ◌&&◌, T, eqb, ltb, leb, ◌≢◌, List, [], ◌∷◌, length, nat_abs, refl, subst, inl, inr, arith, lit<, lit≤, eqb→eq, ltb→lt, leb→le}
+use Rattle.std.proofs.Common.{ℕ, ◌<◌, Bool, not, ◌&&◌, T, eqb, ltb, leb, ◌≢◌, List, [], ◌∷◌, length, nat_abs, refl, subst, inl, inr, arith, lit<, lit≤, eqb→eq, ltb→lt, leb→le}
+use lib.Dec.{not_T}
 use lib.Dec.{eqb_refl}
 use Rattle.laws.specs.Systems.{Left, Lawful}
 use Rattle.laws.specs.Outlines.{Marks, Arc, more}
@@ -89,12 +90,8 @@ one_more =
       others = λ p n. test_same (all_but_2 p) (all_five p) (λ h. (both (ltb p 5) (not (eqb p 2)) h).0) (λ h. and (ltb p 5) (not (eqb p 2)) h (unlike p n));
     }
   where
-    not_false : (b : Bool) → (T b → ⊥) → T (not b)
-    not_false true n = n tt
-    not_false false n = tt
-
     unlike : (p : ℕ) → p ≢ 2 → T (not (eqb p 2))
-    unlike p n = not_false (eqb p 2) (λ h. n (eqb→eq p 2 h))
+    unlike p n = not_T (eqb p 2) (λ h. n (eqb→eq p 2 h))
 
 -- mark 0 is not on the ring of all five
 off : On (1 ∷ 2 ∷ 3 ∷ 4 ∷ []) 0 → ⊥

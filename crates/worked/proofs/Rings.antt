@@ -1,5 +1,5 @@
 -- Rings of small sections, by tests that are computed.
-use Rattle.std.proofs.Common.{◌≡◌, ℕ, Bool, true, false, not, ◌||◌, T, eqb, ltb, ◌≢◌, ℤ, pos, nat_abs, sym, subst, eqb→eq, T_not, lt-ltb}
+use Rattle.std.proofs.Common.{◌≡◌, ℕ, Bool, true, false, not, ◌||◌, T, eqb, ltb, ◌≢◌, ℤ, pos, nat_abs, sym, subst, eqb→eq, T_not, lt→ltb}
 use Rattle.laws.specs.Systems.{Meaning}
 use Rattle.laws.specs.Outlines.{Marks, Arc}
 use Rattle.laws.specs.First.{NeverTriple, NeverPair}
@@ -10,10 +10,6 @@ use Rattle.models.proofs.Tests.{all_at}
 or_cases : (a b : Bool) → T (a || b) → (T a → ⊥) → T b
 or_cases true b h n = absurd (n tt)
 or_cases false b h n = h
-
-not_false : (b : Bool) → (T b → ⊥) → T (not b)
-not_false true n = n tt
-not_false false n = tt
 
 -- every mark of s but p and q is to the left
 abbrev pub arc_test : Meaning → (ℕ → Bool) → ℕ → ℕ → Bool
@@ -41,13 +37,13 @@ module _ (m : Meaning) (s : ℕ → Bool) (marks : Marks m (of s)) where
 pub never_pair : (n : ℕ) (test : ℕ → ℕ → Bool) (P : ℕ → ℕ → Type 0) → ((i j : ℕ) → P i j → T (test i j))
     → T (all n (λ i. all n (λ j. not (ltb i j) || not (test i j)))) → NeverPair n P
 never_pair n test P passes t i hi j hj ij h =
-    T_not (test i j) (or_cases (not (ltb i j)) _ (all_at n _ (all_at n _ t i hi) j hj) (λ k. T_not (ltb i j) k (subst T (sym (lt-ltb i j ij)) tt))) (passes i j h)
+    T_not (test i j) (or_cases (not (ltb i j)) _ (all_at n _ (all_at n _ t i hi) j hj) (λ k. T_not (ltb i j) k (lt→ltb i j ij))) (passes i j h)
 
 pub never_triple : (n : ℕ) (test : ℕ → ℕ → ℕ → Bool) (P : ℕ → ℕ → ℕ → Type 0) → ((i j k : ℕ) → P i j k → T (test i j k))
     → T (all n (λ i. all n (λ j. all n (λ k. not (ltb i j) || (not (ltb j k) || not (test i j k)))))) → NeverTriple n P
 never_triple n test P passes t i hi j hj ij k hk jk h =
-    let t₁ = or_cases (not (ltb i j)) _ (all_at n _ (all_at n _ (all_at n _ t i hi) j hj) k hk) (λ l. T_not (ltb i j) l (subst T (sym (lt-ltb i j ij)) tt)) in
-    let t₂ = or_cases (not (ltb j k)) _ t₁ (λ l. T_not (ltb j k) l (subst T (sym (lt-ltb j k jk)) tt)) in
+    let t₁ = or_cases (not (ltb i j)) _ (all_at n _ (all_at n _ (all_at n _ t i hi) j hj) k hk) (λ l. T_not (ltb i j) l (lt→ltb i j ij)) in
+    let t₂ = or_cases (not (ltb j k)) _ t₁ (λ l. T_not (ltb j k) l (lt→ltb j k jk)) in
     T_not (test i j k) t₂ (passes i j k h)
 
 -- a number that is 0
