@@ -1,10 +1,16 @@
--- The numbers of pairs and threes of marks that are within the limit to which they are counted.
-use Rattle.std.proofs.Common.{◌≡◌, ℕ, ◌≤◌, min, ap, ◌∙◌}
+-- Lists that are as long as their count asks, and those that are not.
+use Rattle.std.proofs.Common.{◌≡◌, ℕ, ◌<◌, ◌≤◌, ◌≢◌, min, ap, sym, ◌∙◌}
 use Rattle.std.proofs.Math.Nat.{min-eq_left}
-use Rattle.models.specs.Threes.{pairs_of, threes_of}
+use Rattle.cc.specs.declared.faults.Fault.{Fault}
+use Rattle.cc.specs.declared.faults.Fault.TheVariants.{Outsize, Miscounted}
+use Rattle.systems.specs.Lengths.{Misfit, beyond, another}
 
-pub pairs_within : {n r : ℕ} → n ≤ 32 → r ≡ pairs_of (min n 32) → r ≡ pairs_of n
-pairs_within h e = e ∙ ap pairs_of (min-eq_left h)
+-- what is counted up to a limit, for a number within it
+pub within : (f : ℕ → ℕ) {n limit r : ℕ} → n ≤ limit → r ≡ f (min n limit) → r ≡ f n
+within f h e = e ∙ ap f (min-eq_left h)
 
-pub threes_within : {n r : ℕ} → n ≤ 24 → r ≡ threes_of (min n 24) → r ≡ threes_of n
-threes_within h e = e ∙ ap threes_of (min-eq_left h)
+-- whatever holds of the two faults holds of the fault of a list that is not as long
+pub unfit : (f : ℕ → ℕ) (J : Fault → Type 0) {n limit due len : ℕ} {fault : Fault} → due ≡ f (min n limit) →
+    (limit < n → J (Outsize limit)) → (n ≤ limit → len ≢ f n → J (Miscounted len)) → Misfit n limit due len fault → J fault
+unfit f J e few long (beyond h) = few h
+unfit f J e few long (another h k) = long h (λ l. k (l ∙ sym (within f h e)))

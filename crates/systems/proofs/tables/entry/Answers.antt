@@ -2,17 +2,17 @@
 use Rattle.std.proofs.Common.{◌≡◌, ℕ, ◌+◌, ◌-◌, ◌<◌, ◌≤◌, min, arith}
 use Rattle.models.specs.Threes.{place3, pairs_of, threes_of}
 use Rattle.models.proofs.Entries.{entry_is}
-use Rattle.systems.proofs.Counts.{pairs_within, threes_within}
+use Rattle.systems.proofs.Counts.{within}
 use Rattle.systems.proofs.tables.entry.Goals as goal
 
 counted : (n i j k : ℕ) {all later begun ended : ℕ} → i < j → j < k → k < n → n ≤ 24 →
     all ≡ threes_of (min n 24) → later ≡ pairs_of (min (n - i - 1) 32) → begun ≡ threes_of (min (n - i) 24) → ended ≡ pairs_of (min (n - j) 32) →
     place3 n i j k + begun + ended ≡ all + later + (k - j - 1)
 counted n i j k x y z few a b c d =
-    let a' = threes_within few a in
-    let b' = pairs_within {n = n - i - 1} (omega arith) b in
-    let c' = threes_within {n = n - i} (omega arith) c in
-    let d' = pairs_within {n = n - j} (omega arith) d in
+    let a' = within threes_of few a in
+    let b' = within pairs_of {n = n - i - 1} (omega arith) b in
+    let c' = within threes_of {n = n - i} (omega arith) c in
+    let d' = within pairs_of {n = n - j} (omega arith) d in
     let e = entry_is n i j k x y z few in
     rw (a', b', c', d') e
 
