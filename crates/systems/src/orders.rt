@@ -33,7 +33,7 @@ pub(crate) fn turned(left: bool) -> Turn
 }
 
 // Whether p, q and r are three different marks below n.
-// stays asked by an `if` that returns `None`: a closure for `then` would need both clauses of the function that it calls once more
+// stays asked by an `if` that returns `None`: tried with `then`, of whose closure it is not known what the function that it calls answers
 pub(crate) fn are_three(n: usize, p: usize, q: usize, r: usize) -> bool
     ensures three { MatchBool result (Three n p q r) (Three n p q r → ⊥) }
 {

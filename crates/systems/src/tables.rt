@@ -96,8 +96,7 @@ impl<'a> Turns<'a> {
         ensures fours { MatchResult result (λ _. AllLawful 4 (turn_table self.now.count self.now.list.now)) (λ fault. Judged self.now.count self.now.list.now (Some fault)) }
     {
         let n = self.count;
-        // stays nested loops: std names no groups of k marks, itertools' `combinations` allocates, and one search for any k
-        // would need a trait for the pattern, its test and the fault
+        // stays nested loops: `combinations` of itertools allocates, and one search for any k needs a trait for pattern, test and fault
         for a in 0..n {
             for b in a + 1..n {
                 for c in b + 1..n {
