@@ -1,4 +1,5 @@
-//! One section of five marks, from its list of places to a system, to layers over it, and to two histories of calls.
+//! One section of five marks, from its list of places to a system, to layers over it, and to two histories of calls; and the limits of a
+//! points system, each just kept and just passed.
 
 #![tactic(auto)]
 
@@ -12,6 +13,7 @@ use hull::histories::{Call, Question, compare};
 use models::places::Place;
 use showing::{show_answer, show_turns, show_verdict};
 use std::alloc::{AllocError, Global};
+use std::array;
 use systems::points::Points;
 
 const SECTION: [Place; 5] = [
@@ -57,6 +59,29 @@ fn show_systems(rt: &HostRuntime) -> anyhow::Result<()> {
     show_verdict(rt, "renaming", misnamed.accepted())
 }
 
+// A place on a parabola, no three of whose places lie on one line.
+fn on_parabola(i: usize) -> Place {
+    let x = i.min(128) as i32 - 64;
+    Place { x, y: x * x }
+}
+
+// Whether the limits are kept: 10,000 is a coordinate and 10,001 is none, and 128 places are a system and 129 are none.
+fn show_limits(rt: &HostRuntime) -> anyhow::Result<()> {
+    let near = [Place {
+        x: 10_000,
+        y: -10_000,
+    }];
+    show_verdict(rt, "10000", Points::open(&near).accepted())?;
+    let far = [Place {
+        x: 10_001,
+        y: -10_000,
+    }];
+    show_verdict(rt, "10001", Points::open(&far).accepted())?;
+    let places: [Place; 129] = array::from_fn(on_parabola);
+    show_verdict(rt, "128 marks", Points::open(&places[..128]).accepted())?;
+    show_verdict(rt, "129 marks", Points::open(&places).accepted())
+}
+
 // A history on the section, and the same on its mirror under other names: mark i of it is mark 4 - i of the section.
 fn show_histories(rt: &HostRuntime) -> anyhow::Result<()> {
     let heap = rt.alloc();
@@ -78,5 +103,6 @@ fn show_histories(rt: &HostRuntime) -> anyhow::Result<()> {
 
 fn main(rt: HostRuntime) -> anyhow::Result<()> {
     show_systems(&rt)?;
-    show_histories(&rt)
+    show_histories(&rt)?;
+    show_limits(&rt)
 }
