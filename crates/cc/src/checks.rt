@@ -11,8 +11,8 @@ pub trait Checked: Sized {
     ghost refusal: { Self → Option Fault };
 
     // Why it is refused; none where it is accepted.
-    // stays an `Option`, as do the field of each of the five types that it tells and what `faults::accepted` takes, and the openers answer
-    // the type itself: opening cannot fail, a refused system is one of no mark, and whoever wants a `Result` asks for `checked`
+    // stays an `Option`, in each of the five types that it tells of, as their field, and where `faults::accepted` takes it; and their openers
+    // answer the type itself: opening cannot fail, what is refused is a system of no mark, and whoever wants a `Result` asks for `checked`
     fn fault(&self) -> Option<Fault>
         ensures told { result ≡ refusal self.now };
 

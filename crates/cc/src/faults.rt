@@ -64,7 +64,7 @@ impl Fault {
     }
 
     // Its five places, those that it does not use 0.
-    // stays an array, with `places_used` beside it: each is a public answer, and text takes the slice of both
+    // stays an array, with `places_used` beside it: five places, those not used 0, are what a refusal is defined as
     pub fn places(&self) -> [usize; 5]
         ensures five { result ≡ five_places self.now }
     {

@@ -18,7 +18,7 @@ use arrayvec::ArrayVec;
 pub struct Renaming<S: CcSystem> {
     below: S,
     names: ArrayVec<usize, LIMIT>,
-    // stays beside what is held: opening cannot fail, and `checked` gives the system or the fault
+    // stays beside what is held: a `Result` of the names would be taken apart by each method, and by what is known of the names
     fault: Option<Fault>,
     // the names are different marks of the system below
     ghost apart: { T (different (S.CcSystem.meaning below).count names.items) },

@@ -14,13 +14,8 @@ fn run(rt: &HostRuntime) -> anyhow::Result<()> {
     let _ = args.next();
     let path = args.next().context("no sheet")?;
     let sheet = fs::read(rt, path.as_str())?;
-    let mut layers = String::new(heap);
-    for word in args {
-        if !layers.is_empty() {
-            layers.push_str(" ")?;
-        }
-        layers.push_str(&word)?;
-    }
+    let words = args.collect::<Vec<_>>(heap)?;
+    let layers = words.join(heap, " ")?;
     let mut script = Vec::new(heap);
     rt.stdin().read_to_end(&mut script)?;
     let out = console(heap, &sheet, layers.as_bytes(), &script)?;

@@ -27,10 +27,9 @@ fn verb_of(byte: u8) -> Option<Verb>
     }
 }
 
-// Makes the calls on an unused hull over the system, and adds up what the answers are worth; gives the system back with the sum.
-fn tally_once<S: CcSystem + Drop>(system: S, calls: &[u8]) -> (S, usize)
-    ensures system { result.0 ≡ system }
-    ensures total { Total (S.CcSystem.meaning system) calls.now result.1 }
+// Makes the calls on an unused hull over the system, and adds up what the answers are worth.
+fn tally_once<S: CcSystem + Drop>(system: S, calls: &[u8]) -> usize
+    ensures total { Total (S.CcSystem.meaning system) calls.now result }
 {
     let mut hull = DynamicHull::over(system);
     let mut total = 0usize;
@@ -43,19 +42,16 @@ fn tally_once<S: CcSystem + Drop>(system: S, calls: &[u8]) -> (S, usize)
         let answer = make(&mut hull, Call { verb, number });
         total = total.wrapping_add(worth(&answer));
     }
-    (hull.take_off(), total)
+    total
 }
 
 // Makes the calls so many times, each time on an unused hull over the system, and adds up what the answers are worth.
-fn tally_over<S: CcSystem + Drop>(system: S, calls: &[u8], times: usize) -> usize
+fn tally_over<S: CcSystem + Copy>(system: S, calls: &[u8], times: usize) -> usize
     ensures total { Totals (S.CcSystem.meaning system) calls.now times result }
 {
-    let mut below = system;
     let mut total = 0usize;
     for _time in 0..times {
-        let (system, once) = tally_once(below, calls);
-        below = system;
-        total = total.wrapping_add(once);
+        total = total.wrapping_add(tally_once(system, calls));
     }
     total
 }

@@ -7,6 +7,7 @@ use Rattle.hull.specs.declared.answers.Placed.TheVariants.{Edge as EdgeAt, Insid
 use Rattle.hull.specs.declared.histories.Reply.{Reply}
 use Rattle.hull.specs.declared.histories.Reply.TheVariants.{Added, Dropped, Placed, Beside, Wrote}
 
+-- the word of a side
 abbrev pub word : Side → List ℕ
 word Edge = codes "edge"
 word Inside = codes "inside"

@@ -10,7 +10,7 @@ pub enum Side {
 }
 
 // What an add did: where the mark stands, and how many marks left the outline, none where it stands within.
-// Stays a struct: both are answered of every mark, and a case of each side, the one with no number, would be an `Option` by another name.
+// Stays a struct: what an add answers is a side and a number, of every mark, and is told and printed so.
 #[derive(Clone, Copy, PartialEq, Eq, Debug)]
 pub struct Added {
     pub side: Side,

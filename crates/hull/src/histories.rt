@@ -49,6 +49,7 @@ pub struct Answer {
 }
 
 // Puts a question to a hull, with a copy of the list that goes with it.
+// Stays apart from the shell's `make`, with `carry_out`: lists are on the heap here and of any length, and a copy of one may fail.
 fn ask<S: CcSystem>(
     heap: Global,
     hull: &DynamicHull<S>,

@@ -16,6 +16,7 @@ use cc::lists::copy_front;
 
 // Some marks of a CC system, those that are in, and the outline around them. A mark is in from an add of it that is
 // not declined until the next such drop.
+// Stay two facts in each clause, what the system means and which marks are in: a model of both would be taken apart in each.
 #[derive(Drop)]
 pub struct DynamicHull<S: CcSystem> {
     pub(crate) system: S,

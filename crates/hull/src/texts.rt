@@ -7,7 +7,7 @@ use super::answers::{Added, Placed, Side};
 use super::histories::Reply;
 use std::fmt;
 
-// Its word.
+// The word of a side.
 impl fmt::Display for Side {
     ghost output = { λ side. Some (word side) };
 
@@ -19,7 +19,7 @@ impl fmt::Display for Side {
     }
 }
 
-// Its fields, parted by tabs.
+// The fields of a reply, parted by tabs.
 impl fmt::Display for Reply {
     ghost output = { λ reply. Some (fields reply) };
 

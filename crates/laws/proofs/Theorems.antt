@@ -1,4 +1,4 @@
--- The theorems of specs/Theory.antt.
+-- The theorems of specs/Theorems.antt.
 use Rattle.std.proofs.Common.{Bool, true, false, T, ◌⊎◌, inl, inr}
 use mathlib.Core.Logic.Iff
 use Rattle.laws.specs.Theorems.{MirrorLaw, SomeHidden, Insertion, Fan, ThreeOrMore, Existence, Uniqueness, GoesByTurns, Mirrored, Picked, Piled}

@@ -10,7 +10,7 @@ use std::alloc::Global;
 use std::io::Read;
 
 // The bytes of a sheet, from its line in the table.
-// stays here, though `sheet_cases` has its own: two programs share only libraries, and none of those is about how a table of cases is written
+// stays here, though `sheet_cases` has its own: two programs share only libraries, and a library for eight lines is longer than both
 fn decoded(heap: Global, sheet: &str) -> anyhow::Result<Vec<u8>> {
     let mut text = Vec::new(heap);
     for b in sheet.bytes() {

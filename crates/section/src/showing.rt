@@ -8,6 +8,7 @@ use hull::histories::{Answer, Reply};
 pub fn show_turns<S: CcSystem>(rt: &HostRuntime, name: &str, system: &S) -> anyhow::Result<()> {
     let n = system.count();
     println!(rt; "{name}\tcount\t{n}")?;
+    // stay nested loops: the marks themselves are shown
     for p in 0..n {
         for q in p + 1..n {
             for r in q + 1..n {
@@ -20,6 +21,14 @@ pub fn show_turns<S: CcSystem>(rt: &HostRuntime, name: &str, system: &S) -> anyh
     Ok(())
 }
 
+// A refusal, by its number and its five places.
+fn show_fault(rt: &HostRuntime, name: &str, fault: Fault) -> anyhow::Result<()> {
+    let number = fault.number();
+    let places = fault.places();
+    print!(rt; "{name}\tno\t{number}\t{places:?}")?;
+    Ok(())
+}
+
 // Whether a list was accepted, or why it was refused.
 pub fn show_verdict(
     rt: &HostRuntime,
@@ -29,16 +38,15 @@ pub fn show_verdict(
     match verdict {
         Ok(()) => println!(rt; "{name}\taccepted")?,
         Err(fault) => {
-            let number = fault.number();
-            let places = fault.places();
-            println!(rt; "{name}\tno\t{number}\t{places:?}")?
+            show_fault(rt, name, fault)?;
+            println!(rt; "")?
         }
     }
     Ok(())
 }
 
-// The call that replies so.
-fn call_of(reply: Reply) -> &'static str {
+// What stands before a reply.
+fn word(reply: Reply) -> &'static str {
     match reply {
         Reply::Added(_) => "add",
         Reply::Dropped(_) => "drop",
@@ -52,15 +60,17 @@ fn call_of(reply: Reply) -> &'static str {
 pub fn show_answer(rt: &HostRuntime, name: &str, answer: &Answer) -> anyhow::Result<()> {
     let list = &answer.list;
     match answer.reply {
-        Ok(Reply::Wrote(length)) => println!(rt; "{name}\twrote\t{length}\t{list:?}")?,
         Ok(reply) => {
-            let call = call_of(reply);
-            println!(rt; "{name}\t{call}\t{reply}")?
+            let word = word(reply);
+            print!(rt; "{name}\t{word}\t{reply}")?;
+            if let Reply::Wrote(_) = reply {
+                print!(rt; "\t{list:?}")?;
+            }
+            println!(rt; "")?;
         }
         Err(fault) => {
-            let number = fault.number();
-            let places = fault.places();
-            println!(rt; "{name}\tno\t{number}\t{places:?}\t{list:?}")?
+            show_fault(rt, name, fault)?;
+            println!(rt; "\t{list:?}")?;
         }
     }
     Ok(())

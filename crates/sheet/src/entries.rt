@@ -133,6 +133,7 @@ pub(crate) fn read_lines<E: Entry>(text: &[u8], count: usize, list: &mut [E]) ->
 {
     let mut rest = text;
     let mut spot = Spot::first(count);
+    // stays moved on by hand: a line that is due and missing is a fault of its own, and the next triple follows from the last
     for entry in list.iter_mut() {
         let (line, after) = next_line(rest, spot.number())?;
         *entry = judge(line, spot)?;

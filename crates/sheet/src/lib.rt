@@ -22,7 +22,7 @@ use cc::lists::copy_front;
 pub use cc::texts::UnknownLetter;
 use cc::{LIMIT, Turn};
 use lines::{Line, formed};
-use models::counts::{pairs, threes};
+use models::counts::{IN_TABLE, WIRES, pairs, threes};
 use models::places::Place;
 use numbers::{cut, six_digits};
 pub use rooms::{Room, Values};
@@ -46,8 +46,8 @@ impl Kind {
     {
         match self {
             Kind::Points => LIMIT,
-            Kind::Network => 32,
-            Kind::Table => 24,
+            Kind::Network => WIRES,
+            Kind::Table => IN_TABLE,
         }
     }
 
@@ -182,6 +182,7 @@ pub fn round_trip_stands()
 mod tests {
     use super::numbers::number;
     use super::*;
+    use models::counts::THREES;
     use std::test::Fail;
 
     #[test]
@@ -246,7 +247,7 @@ mod tests {
         assert_eq!(rt; Kind::try_from(b'W'), Ok(Kind::Network));
         assert_eq!(rt; Kind::try_from(b'w'), Err(UnknownLetter(b'w')));
         assert_eq!(rt; format!(in rt.alloc(); "{}", Kind::Table)?.as_str(), "T");
-        assert_eq!(rt; Kind::Table.due(Kind::Table.limit()), 2024);
+        assert_eq!(rt; Kind::Table.due(Kind::Table.limit()), THREES);
         Ok(())
     }
 

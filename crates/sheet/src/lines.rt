@@ -44,6 +44,7 @@ fn turning_fields(fields: &[u8]) -> Option<Line<'_>>
 }
 
 // The line that the bytes are, without the byte 10 at its end; none where they have no line's form.
+// stays an `Option`: there is one way to be no line, and an error would say nothing more
 pub(crate) fn formed(bytes: &[u8]) -> Option<Line<'_>>
     ensures formed { Says Parted spelled bytes.now (option_map shape result) }
 {

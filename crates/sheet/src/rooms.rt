@@ -7,6 +7,7 @@ use super::entries::read_lines;
 use super::{Head, Kind, opening};
 use cc::faults::Fault;
 use cc::{LIMIT, Turn};
+use models::counts::{PAIRS, THREES};
 use models::places::Place;
 
 // The values of a sheet, and the count of its marks where it is not their number.
@@ -24,11 +25,12 @@ pub enum Values<'a> {
 }
 
 // Room for the values of any one sheet.
+// Stay three lists of which one is in use: their memory is fixed, and values are lent as a slice of their own type.
 #[derive(Drop)]
 pub struct Room {
     places: [Place; LIMIT],
-    crossings: [usize; 496],
-    turns: [Turn; 2024],
+    crossings: [usize; PAIRS],
+    turns: [Turn; THREES],
 }
 
 impl Room {
@@ -38,8 +40,8 @@ impl Room {
     {
         Room {
             places: [Place { x: 0, y: 0 }; LIMIT],
-            crossings: [0; 496],
-            turns: [Turn::Left; 2024],
+            crossings: [0; PAIRS],
+            turns: [Turn::Left; THREES],
         }
     }
 
@@ -49,6 +51,7 @@ impl Room {
     {
         let (Head { kind, count }, rest) = opening(text)?;
         let due = kind.due(count);
+        // stay three arms, as in `read`: each kind's values have a type of their own, and one function reads them
         match kind {
             Kind::Points => {
                 let places = &mut self.places[..due];

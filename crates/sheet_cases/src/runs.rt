@@ -38,7 +38,7 @@ fn compare(
 }
 
 // The bytes of a sheet, from its line in the table.
-// stays here, though `report_cases` has its own: two programs share only libraries, and none of those is about how a table of cases is written
+// stays here, though `report_cases` has its own: two programs share only libraries, and a library for eight lines is longer than both
 fn decoded(heap: Global, sheet: &str) -> anyhow::Result<Vec<u8>> {
     let mut text = Vec::new(heap);
     for b in sheet.bytes() {
@@ -66,6 +66,7 @@ fn try_line(rt: &HostRuntime, line: &str, score: Score) -> anyhow::Result<Score>
 fn largest_table(heap: Global) -> anyhow::Result<String> {
     let mut text = String::new(heap);
     text.push_str("T\t24\n")?;
+    // stay nested loops: each line tells three marks
     for i in 0..24 {
         for j in i + 1..24 {
             for k in j + 1..24 {
@@ -78,12 +79,8 @@ fn largest_table(heap: Global) -> anyhow::Result<String> {
 
 // The first part, and then the second so many times.
 fn repeated(heap: Global, first: &str, second: &str, times: usize) -> anyhow::Result<String> {
-    let mut text = String::new(heap);
-    text.push_str(first)?;
-    for _ in 0..times {
-        text.push_str(second)?;
-    }
-    Ok(text)
+    let rest = second.repeat(heap, times)?;
+    Ok(format!(in heap; "{first}{rest}")?)
 }
 
 fn try_largest(rt: &HostRuntime, score: Score) -> anyhow::Result<Score> {

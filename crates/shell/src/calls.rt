@@ -1,9 +1,9 @@
 //! Calls on a hull, each with its number, and what they answer.
 
-ghost use Rattle.std.specs.Prelude.{◌≡◌, []};
+ghost use Rattle.std.specs.Prelude.{◌≡◌, [], length};
 ghost use Rattle.hull.specs.Records.{held};
 ghost use Rattle.hull.specs.Histories.{Called, told};
-ghost use Rattle.shell.specs.Calls.{handed, meant};
+ghost use Rattle.shell.specs.Calls.{handed, list_of, meant};
 
 use super::commands::{Call, Verb};
 use arrayvec::ArrayVec;
@@ -19,7 +19,8 @@ pub struct Answer {
     pub list: ArrayVec<usize, LIMIT>,
 }
 
-// A list of so many zeros, but of no more than a system has marks.
+// A list of so many zeros, but of no more than a system may have marks.
+// stays cut from a full one: a call writes into a list that it is lent
 fn zeros(room: usize) -> ArrayVec<usize, LIMIT>
     ensures zeros { result.items ≡ handed room }
 {
@@ -30,7 +31,8 @@ fn zeros(room: usize) -> ArrayVec<usize, LIMIT>
 
 // The answer to a call that goes with no list.
 fn unlisted(reply: Result<Reply, Fault>) -> Answer
-    ensures told { told result.reply result.list.items ≡ told reply [] }
+    ensures reply { result.reply ≡ reply }
+    ensures none { result.list.items ≡ [] }
 {
     Answer {
         reply,
@@ -41,6 +43,7 @@ fn unlisted(reply: Result<Reply, Fault>) -> Answer
 // Makes the call; a list is one of zeros, as long as its number says, but of no more than 128.
 pub fn make<S: CcSystem>(hull: &mut DynamicHull<S>, call: Call) -> Answer
     ensures called { Called (S.CcSystem.meaning hull.old.system) (held hull.old.state.records) (held hull.new.state.records) (meant call) (told result.reply result.list.items) }
+    ensures list { length result.list.items ≡ length (list_of call.verb call.number) }
     ensures system { hull.new.system ≡ hull.old.system }
 {
     let Call { verb, number } = call;

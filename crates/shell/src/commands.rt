@@ -29,6 +29,7 @@ const VERBS: [Verb; 6] = [
 ];
 
 // A call with its number.
+// Stays a struct: each of the six has a number, and cases with one each would leave no list of the words.
 #[derive(Clone, Copy, PartialEq, Eq, Debug)]
 pub struct Call {
     pub verb: Verb,
@@ -68,7 +69,7 @@ impl fmt::Display for Verb {
 }
 
 // Whether the bytes are those of the word.
-// Stays: `bytes == b"census".as_slice()` at each place is no plainer.
+// Stays a function: a pattern like b"census" can stand where the word is known, but not in `verb_of`, whose word is a value.
 pub(crate) fn is(bytes: &[u8], word: &str) -> bool
     ensures same { MatchBool result (bytes.now ≡ word.now) (bytes.now ≢ word.now) }
 {
@@ -83,6 +84,7 @@ fn verb_of(word: &[u8]) -> Option<Verb>
 }
 
 // What a line asks for; none where it is no call.
+// stays an `Option`: there is one way to be no call, and an error would say nothing more
 pub fn parse(line: &[u8]) -> Option<Command>
     ensures command { Says Fits written line.now result }
 {

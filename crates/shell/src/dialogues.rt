@@ -14,6 +14,7 @@ use std::alloc::{AllocError, Global};
 use std::fmt::Write;
 
 // The first line, without the byte 10 that ends it, and what follows; none where nothing is left.
+// Stays beside the sheet's: there a line that lacks its byte 10 is a fault.
 fn next_line(text: &[u8]) -> Option<(&[u8], &[u8])>
     ensures line { MatchOption result (text.now ≡ []) (λ p. Begins text.now p.0.now p.1.now) }
 {

@@ -41,8 +41,8 @@ impl Offset {
         ensures leads { Leads p q result }
     {
         Offset {
-            a: (q.x - p.x) as i64,
-            b: (q.y - p.y) as i64,
+            a: i64::from(q.x - p.x),
+            b: i64::from(q.y - p.y),
         }
     }
 
@@ -56,8 +56,8 @@ impl Offset {
 }
 
 // Twice the signed area of the triangle p q r.
-// stays three clauses: the places come out of a list of which one fact says that all are near, and a type for a near place would be
-// made anew at each read
+// stay clauses, here and at `between`, `to` and `star_determinant`: the places come out of a list of which one fact says that all are near,
+// and a type for a near place would be made anew at each read
 pub(crate) fn determinant(p: Place, q: Place, r: Place) -> i64
     requires p { Near p }
     requires q { Near q }

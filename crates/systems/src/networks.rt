@@ -12,11 +12,11 @@ use super::orders::in_order;
 use cc::checks::Checked;
 use cc::faults::Fault;
 use cc::{CcSystem, Turn};
-use models::counts::pairs;
+use models::counts::{WIRES, pairs};
 use std::array;
 
 // The wires, from top to bottom, before the first crossing.
-fn start() -> [usize; 32]
+fn start() -> [usize; WIRES]
     ensures long { length result ≡ 32 }
     ensures wires { (p : ℕ) → p < 32 → slice_index result p ≡ p }
 {
@@ -37,7 +37,7 @@ impl<'a> Crossings<'a> {
     fn of(count: usize, list: &'a [usize]) -> Result<Crossings<'a>, Fault>
         ensures fits { MatchResult result (λ c. (c.count ≡ count) × (c.list.now ≡ list.now)) (λ f. Judged count list.now (Some f)) }
     {
-        check_length(count, 32, pairs(count), list.len())?;
+        check_length(count, WIRES, pairs(count), list.len())?;
         Ok(Crossings { count, list })
     }
 
@@ -54,12 +54,12 @@ impl<'a> Crossings<'a> {
 
     // Follows the wires through the crossings: the entry at which each pair crosses, in row i at j for i < j,
     // or else why the crossings are no network.
-    fn times(&self) -> Result<[[u16; 32]; 32], Fault>
+    fn times(&self) -> Result<[[u16; WIRES]; WIRES], Fault>
         requires in_range { (t : ℕ) → t < length self.now.list.now → InRange self.now.count self.now.list.now t }
         ensures judged { MatchResult result (λ times. Judged self.now.count self.now.list.now None × Timed self.now.count self.now.list.now times) (λ fault. Judged self.now.count self.now.list.now (Some fault)) }
     {
         let mut wires = start();
-        let mut times = [[0; 32]; 32];
+        let mut times = [[0; WIRES]; WIRES];
         for (t, k) in self.list.iter().enumerate() {
             let upper = wires[*k];
             let lower = wires[*k + 1];
@@ -79,8 +79,8 @@ impl<'a> Crossings<'a> {
 pub struct ReflectionNetwork<'a> {
     crossings: Crossings<'a>,
     // the entry at which wires i < j cross, in row i at j
-    times: [[u16; 32]; 32],
-    // stays beside what is held: opening cannot fail, and `checked` gives the system or the fault
+    times: [[u16; WIRES]; WIRES],
+    // stays beside what is held: a `Result` of the rest would be taken apart by each method, and by what is known of the crossings
     fault: Option<Fault>,
     ghost legal: { (t : ℕ) → t < length crossings.list.now → upper crossings.list.now t < lower crossings.list.now t },
     ghost timed: { (i j : ℕ) → i < j → j < crossings.count → T (slice_index (slice_index_or times i []) j == crossing crossings.list.now i j) },
@@ -88,6 +88,8 @@ pub struct ReflectionNetwork<'a> {
 
 impl<'a> ReflectionNetwork<'a> {
     // The network of the crossings, after a check of all of them. A refused network has no wires and tells its fault.
+    // Stays beside the table's `open`, and `Crossings` beside `Turns`: of one for both the empty system and the bounds would be asked of a
+    // trait.
     pub fn open(count: usize, crossings: &'a [usize]) -> ReflectionNetwork<'a>
         ensures judged { Judged count crossings.now result.fault }
         ensures network { (result.fault ≡ None) ↔ ((count ≤ 32) × Network count crossings.now) }
@@ -102,7 +104,7 @@ impl<'a> ReflectionNetwork<'a> {
                 count: 0,
                 list: &crossings[..0],
             },
-            times: [[0; 32]; 32],
+            times: [[0; WIRES]; WIRES],
             fault: Some(fault),
         }
     }

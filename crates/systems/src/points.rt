@@ -20,7 +20,7 @@ use models::places::Place;
 #[derive(Clone, Copy)]
 pub struct Points<'a> {
     places: &'a [Place],
-    // stays beside what is held: opening cannot fail, and `checked` gives the system or the fault
+    // stays beside what is held: a `Result` of the places would be taken apart by each method, and by what is known of them
     fault: Option<Fault>,
     ghost good: { ∥ Good places.now ∥₁ },
 }

@@ -4,6 +4,7 @@ ghost use Rattle.std.specs.Prelude.{◌≡◌, ℕ, ◌<◌, MatchBool, MatchOpt
 ghost use Rattle.laws.specs.First.{FirstTriple, NeverTriple};
 
 // A property of three rising numbers below a count, which can be tested.
+// Stays a trait: what is tested and the test of it stand together once; for a closure both would be written out at each search.
 pub(crate) trait OfThree {
     ghost below: { Self → ℕ };
 
@@ -24,7 +25,7 @@ pub(crate) fn first_three<P: OfThree>(property: &P) -> Option<(usize, usize, usi
     ensures first { MatchOption result (NeverTriple (P.below property.now) (P.property property.now)) (λ t. FirstTriple (P.below property.now) (P.property property.now) t.0 t.1 t.2) }
 {
     let n = property.count();
-    // stays three loops: no library call finds a first three in rising order, and the label leaves all three at once, as is asked for here
+    // stays three loops: no library call finds a first three in rising order, and the label leaves all three at once
     let mut found = None;
     'search: for i in 0..n {
         for j in i + 1..n {

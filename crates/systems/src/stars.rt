@@ -23,7 +23,7 @@ use models::places::Place;
 pub struct Star<'a> {
     places: &'a [Place],
     centre: usize,
-    // stays beside what is held: opening cannot fail, and `checked` gives the system or the fault
+    // stays beside what is held: a `Result` of the places would be taken apart by each method, and by what is known of them
     fault: Option<Fault>,
     ghost clear: { ∥ Clear places.now centre ∥₁ },
 }

@@ -17,7 +17,7 @@ use cc::checks::Checked;
 use cc::faults::Fault;
 use cc::{CcSystem, Turn};
 use models::catalogue::{is_lawful_five, is_lawful_four};
-use models::counts::{pairs, threes};
+use models::counts::{IN_TABLE, pairs, threes};
 
 // The entry of i < j < k among the threes of n marks in rising order.
 fn entry(n: usize, i: usize, j: usize, k: usize) -> usize
@@ -49,7 +49,7 @@ impl<'a> Turns<'a> {
     fn of(count: usize, list: &'a [Turn]) -> Result<Turns<'a>, Fault>
         ensures fits { MatchResult result (λ t. (t.count ≡ count) × (t.list.now ≡ list.now)) (λ f. Judged count list.now (Some f)) }
     {
-        check_length(count, 24, threes(count), list.len())?;
+        check_length(count, IN_TABLE, threes(count), list.len())?;
         Ok(Turns { count, list })
     }
 
@@ -96,7 +96,8 @@ impl<'a> Turns<'a> {
         ensures fours { MatchResult result (λ _. AllLawful 4 (turn_table self.now.count self.now.list.now)) (λ fault. Judged self.now.count self.now.list.now (Some fault)) }
     {
         let n = self.count;
-        // stays nested loops: `combinations` of itertools allocates, and one search for any k needs a trait for pattern, test and fault
+        // stays nested loops, beside those of `check_fives`: a search that serves any number of marks would step through the groups by hand,
+        // and the kit's `combinations` allocates
         for a in 0..n {
             for b in a + 1..n {
                 for c in b + 1..n {
@@ -139,7 +140,7 @@ impl<'a> Turns<'a> {
 #[derive(Clone, Copy)]
 pub struct TurnTable<'a> {
     turns: Turns<'a>,
-    // stays beside what is held: opening cannot fail, and `checked` gives the system or the fault
+    // stays beside what is held: a `Result` of the turns would be taken apart by each method, and by what is known of them
     fault: Option<Fault>,
     // the table passes the test of laws 4 and 5
     ghost kept: { T (keeps turns.count (spread (table_turns turns.count (map is_left turns.list.now)))) },

@@ -4,7 +4,7 @@ use Rattle.runs.specs.Runs.{place?, neighbours?, outline?, rounds?}
 use Rattle.hull.specs.declared.histories.Reply.TheVariants.{Added, Dropped, Placed as WasPlaced, Beside}
 use Rattle.hull.specs.Records.{held}
 use Rattle.hull.specs.Replies.{added_answer, dropped_answer, placed_answer, neighbours_answer}
-use Rattle.hull.specs.Histories.{asks}
+use Rattle.hull.specs.Histories.{asks, told}
 use Rattle.hull.proofs.Recording.{added_moved, dropped_moved}
 use Rattle.shell.specs.declared.commands.Verb.TheVariants.{Add, Drop, Place, Neighbours, Outline, Rounds}
 use Rattle.shell.proofs.Making.{made_by, made_with, placed_so}
@@ -15,20 +15,20 @@ returns-in-Add-clause-called g c =
     let old = c.args.hull.now in
     let new = c.add.new.self in
     made_by (g.S.CcSystem.meaning old.system) (held old.state.records) (held new.state.records) c.args.call Add c.in-Add.is Added added_answer (λ a. refl) (λ f. refl) c.add.result c.map.result _ c.map.ensures.cases
-    c.unlisted.ensures.told c.add.ensures.answer (added_moved c.args.call.number old.state new.state c.add.result c.add.ensures.marks)
+    (λ i. told (c.unlisted.ensures.reply i) (c.unlisted.ensures.none i)) c.add.ensures.answer (added_moved c.args.call.number old.state new.state c.add.result c.add.ensures.marks)
 
 pub returns-in-Drop-clause-called : goal.returns-in-Drop-clause-called
 returns-in-Drop-clause-called g c =
     let old = c.args.hull.now in
     let new = c.drop.new.self in
     made_by (g.S.CcSystem.meaning old.system) (held old.state.records) (held new.state.records) c.args.call Drop c.in-Drop.is Dropped dropped_answer (λ n. refl) (λ f. refl) c.drop.result c.map-in-Drop.result _
-    c.map-in-Drop.ensures.cases c.unlisted-in-Drop.ensures.told c.drop.ensures.answer (dropped_moved c.args.call.number old.state new.state c.drop.result c.drop.ensures.marks)
+    c.map-in-Drop.ensures.cases (λ i. told (c.unlisted-in-Drop.ensures.reply i) (c.unlisted-in-Drop.ensures.none i)) c.drop.ensures.answer (dropped_moved c.args.call.number old.state new.state c.drop.result c.drop.ensures.marks)
 
 pub returns-in-Place-clause-called : goal.returns-in-Place-clause-called
 returns-in-Place-clause-called g c =
     let old = c.args.hull.now in
     let s = held old.state.records in
-    made_by (g.S.CcSystem.meaning old.system) s s c.args.call Place c.in-Place.is WasPlaced placed_answer placed_so (λ f. refl) c.place.result c.map-in-Place.result _ c.map-in-Place.ensures.cases c.unlisted-in-Place.ensures.told
+    made_by (g.S.CcSystem.meaning old.system) s s c.args.call Place c.in-Place.is WasPlaced placed_answer placed_so (λ f. refl) c.place.result c.map-in-Place.result _ c.map-in-Place.ensures.cases (λ i. told (c.unlisted-in-Place.ensures.reply i) (c.unlisted-in-Place.ensures.none i))
     c.place.ensures.answer (asks place? refl)
 
 pub returns-in-Neighbours-clause-called : goal.returns-in-Neighbours-clause-called
@@ -36,7 +36,7 @@ returns-in-Neighbours-clause-called g c =
     let old = c.args.hull.now in
     let s = held old.state.records in
     made_by (g.S.CcSystem.meaning old.system) s s c.args.call Neighbours c.in-Neighbours.is (λ p. Beside p.0 p.1) neighbours_answer (λ p. refl) (λ f. refl) c.neighbours-beside.result c.map-in-Neighbours.result _
-    (search rules) c.unlisted-in-Neighbours.ensures.told c.neighbours-beside.ensures.answer (asks neighbours? refl)
+    (search rules) (λ i. told (c.unlisted-in-Neighbours.ensures.reply i) (c.unlisted-in-Neighbours.ensures.none i)) c.neighbours-beside.ensures.answer (asks neighbours? refl)
 
 pub returns-in-Outline-clause-called : goal.returns-in-Outline-clause-called
 returns-in-Outline-clause-called g c =
