@@ -1,5 +1,5 @@
 -- Histories as the code holds them: calls, and the answers that were recorded.
-use Rattle.std.specs.Prelude.{◌≡◌, ℕ, Bool, List, map, length, vec_items, Ok, Err, Result}
+use Rattle.std.specs.Prelude.{◌≡◌, ℕ, Bool, List, [], map, length, vec_items, Ok, Err, Result}
 use Rattle.laws.specs.Systems.{Meaning}
 use Rattle.cc.specs.declared.faults.Fault.{Fault}
 use Rattle.runs.specs.Calls.{add, drop, place, neighbours, outline, rounds, added, dropped, at, within, beside, wrote, declined, OneMore, Answers}
@@ -39,6 +39,18 @@ told (Err f) l = declined f l
 
 abbrev pub answer_of : Answer → TheAnswer
 answer_of a = told a.reply (vec_items a.list)
+
+-- the list is empty, but where the call wrote into it or was declined
+abbrev pub bare : Result Reply Fault → List ℕ → Type 0
+bare (Ok (Added a)) l = l ≡ []
+bare (Ok (Dropped n)) l = l ≡ []
+bare (Ok (Placed p)) l = l ≡ []
+bare (Ok (Beside a b)) l = l ≡ []
+bare (Ok (Wrote n)) l = Unit {0}
+bare (Err f) l = Unit {0}
+
+abbrev pub Bare : Answer → Type 0
+Bare a = bare a.reply (vec_items a.list)
 
 abbrev pub history : List Call → List Answer → History
 history calls answers = record { calls = map call_of calls; answers = map answer_of answers }

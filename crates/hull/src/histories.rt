@@ -4,7 +4,8 @@ ghost use Rattle.std.specs.Prelude.{◌≡◌, ℕ, false, List, [], IfOk};
 ghost use Rattle.runs.specs.Calls.{Answers, add, drop};
 ghost use Rattle.hull.specs.Records.{held};
 ghost use Rattle.hull.specs.Replies.{added_answer, dropped_answer, placed_answer, neighbours_answer, list_answer};
-ghost use Rattle.hull.specs.Histories.{question_of, call_of, told, answer_of, history, Called, Ran, Compared};
+ghost use Rattle.hull.specs.Histories.{question_of, call_of, told, answer_of, history, Bare, Called, Ran, Compared};
+ghost use Rattle.std.specs.List.{All};
 
 use super::answers::{Added, Placed};
 use super::hulls::DynamicHull;
@@ -48,6 +49,17 @@ pub struct Answer {
     pub list: Vec<usize>,
 }
 
+// The answer to a call that goes with no list.
+fn unlisted(heap: Global, reply: Result<Reply, Fault>) -> Answer
+    ensures reply { result.reply ≡ reply }
+    ensures none { result.list.items ≡ [] }
+{
+    Answer {
+        reply,
+        list: Vec::new(heap),
+    }
+}
+
 // Puts a question to a hull, with a copy of the list that goes with it.
 // Stays apart from the shell's `make`, with `carry_out`: lists are on the heap here and of any length, and a copy of one may fail.
 fn ask<S: CcSystem>(
@@ -56,18 +68,15 @@ fn ask<S: CcSystem>(
     question: &Question,
 ) -> Result<Answer, AllocError>
     ensures answer { IfOk result (λ a. Answers (S.CcSystem.meaning hull.now.system) (held hull.now.state.records) (question_of question.now) (answer_of a)) }
+    ensures bare { IfOk result Bare }
 {
     match question {
-        Question::Place(mark) => Ok(Answer {
-            reply: hull.place(*mark).map(Reply::Placed),
-            list: Vec::new(heap),
-        }),
-        Question::Neighbours(mark) => Ok(Answer {
-            reply: hull
-                .neighbours(*mark)
-                .map(|(before, after)| Reply::Beside(before, after)),
-            list: Vec::new(heap),
-        }),
+        Question::Place(mark) => Ok(unlisted(heap, hull.place(*mark).map(Reply::Placed))),
+        Question::Neighbours(mark) => {
+            let beside = hull.neighbours(*mark);
+            let reply = beside.map(|(before, after)| Reply::Beside(before, after));
+            Ok(unlisted(heap, reply))
+        }
         Question::Outline(list) => {
             let mut list = Vec::from_slice(heap, list)?;
             let reply = hull.outline(&mut list).map(Reply::Wrote);
@@ -88,17 +97,12 @@ fn carry_out<S: CcSystem>(
     call: &Call,
 ) -> Result<Answer, AllocError>
     ensures called { IfOk result (λ a. Called (S.CcSystem.meaning hull.old.system) (held hull.old.state.records) (held hull.new.state.records) (call_of call.now) (answer_of a)) }
+    ensures bare { IfOk result Bare }
     ensures system { hull.new.system ≡ hull.old.system }
 {
     match call {
-        Call::Add(mark) => Ok(Answer {
-            reply: hull.add(*mark).map(Reply::Added),
-            list: Vec::new(heap),
-        }),
-        Call::Drop(mark) => Ok(Answer {
-            reply: hull.drop(*mark).map(Reply::Dropped),
-            list: Vec::new(heap),
-        }),
+        Call::Add(mark) => Ok(unlisted(heap, hull.add(*mark).map(Reply::Added))),
+        Call::Drop(mark) => Ok(unlisted(heap, hull.drop(*mark).map(Reply::Dropped))),
         Call::Ask(question) => ask(heap, hull, question),
     }
 }
@@ -110,6 +114,7 @@ fn replay<S: CcSystem + Drop>(
     calls: &[Call],
 ) -> Result<(DynamicHull<S>, Vec<Answer>), AllocError>
     ensures ran { IfOk result (λ r. Ran (S.CcSystem.meaning system) (history calls.now r.1.items) (held r.0.state.records)) }
+    ensures bare { IfOk result (λ r. All Bare r.1.items) }
     ensures system { IfOk result (λ r. r.0.system ≡ system) }
 {
     let mut hull = DynamicHull::over(system);
@@ -140,6 +145,7 @@ pub fn compare<S: CcSystem + Drop, T: CcSystem + Drop>(
     question: &Question,
 ) -> Result<Comparison, AllocError>
     ensures compared { IfOk result (λ c. Compared (S.CcSystem.meaning first) (history first_calls.now c.first.items) (T.CcSystem.meaning second) (history second_calls.now c.second.items) (question_of question.now) (answer_of c.first_answer) (answer_of c.second_answer)) }
+    ensures bare { IfOk result (λ c. All Bare c.first.items × All Bare c.second.items × Bare c.first_answer × Bare c.second_answer) }
 {
     let (one, first) = replay(heap, first, first_calls)?;
     let (other, second) = replay(heap, second, second_calls)?;

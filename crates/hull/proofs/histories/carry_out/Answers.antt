@@ -13,7 +13,7 @@ returns-in-Add-clause-called g c =
     let new = c.add.new.self in
     let x = c.in-Add.mark in
     called_by (g.S.CcSystem.meaning old.system) (held old.state.records) (held new.state.records) (add x) (call_of c.args.call.now) (added_answer c.add.result) _
-    (ap call_of c.in-Add.is) (ap (told c.map.result) c.new.ensures.items ∙ told_by WasAdded added_answer [] (λ a. refl) (λ f. refl) c.add.result c.map.result c.map.ensures.cases) c.add.ensures.answer
+    (ap call_of c.in-Add.is) ((λ i. told (c.unlisted.ensures.reply i) (c.unlisted.ensures.none i)) ∙ told_by WasAdded added_answer [] (λ a. refl) (λ f. refl) c.add.result c.map.result c.map.ensures.cases) c.add.ensures.answer
     (added_moved x old.state new.state c.add.result c.add.ensures.marks)
 
 pub returns-in-Drop-clause-called : goal.returns-in-Drop-clause-called
@@ -22,7 +22,7 @@ returns-in-Drop-clause-called g c =
     let new = c.drop.new.self in
     let x = c.in-Drop.mark in
     called_by (g.S.CcSystem.meaning old.system) (held old.state.records) (held new.state.records) (drop x) (call_of c.args.call.now) (dropped_answer c.drop.result) _
-    (ap call_of c.in-Drop.is) (ap (told c.map-in-Drop.result) c.new-in-Drop.ensures.items ∙ told_by WasDropped dropped_answer [] (λ n. refl) (λ f. refl) c.drop.result c.map-in-Drop.result c.map-in-Drop.ensures.cases) c.drop.ensures.answer
+    (ap call_of c.in-Drop.is) ((λ i. told (c.unlisted-in-Drop.ensures.reply i) (c.unlisted-in-Drop.ensures.none i)) ∙ told_by WasDropped dropped_answer [] (λ n. refl) (λ f. refl) c.drop.result c.map-in-Drop.result c.map-in-Drop.ensures.cases) c.drop.ensures.answer
     (dropped_moved x old.state new.state c.drop.result c.drop.ensures.marks)
 
 pub returns-in-Ask-clause-called : goal.returns-in-Ask-clause-called

@@ -19,4 +19,5 @@ returns g c =
       compared = compared_by (g.S.CcSystem.lawful c.args.first) (g.T.CcSystem.lawful c.args.second) h h' s s' q a a' c.in_ok-one.ensures.ran c.in_ok-other.ensures.ran
           (is_question c.args.question.now) (subst (λ (m : Meaning). Answers m s q a) (ap g.S.CcSystem.meaning c.in_ok-one.ensures.system) c.in_ok-first_answer.ensures.answer)
           (subst (λ (m : Meaning). Answers m s' q a') (ap g.T.CcSystem.meaning c.in_ok-other.ensures.system) c.in_ok-second_answer.ensures.answer);
+      bare = (c.in_ok-one.ensures.bare, c.in_ok-other.ensures.bare, c.in_ok-first_answer.ensures.bare, c.in_ok-second_answer.ensures.bare);
     }

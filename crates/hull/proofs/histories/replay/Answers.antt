@@ -2,7 +2,9 @@ use Rattle.std.proofs.Common.{take, vec_items, sym, ap, ◌∙◌, subst}
 use Rattle.laws.specs.Systems.{Meaning}
 use Rattle.runs.specs.Runs.{History}
 use Rattle.hull.specs.Records.{held}
-use Rattle.hull.specs.Histories.{call_of, answer_of, history, Called, Ran}
+use Rattle.std.specs.List.{All}
+use Rattle.std.proofs.lemmas.List.Elements.{All-push}
+use Rattle.hull.specs.Histories.{call_of, answer_of, history, Bare, Called, Ran}
 use Rattle.hull.proofs.Recording.{ran_more, history_more}
 use Rattle.hull.proofs.histories.replay.Goals as goal
 
@@ -21,4 +23,5 @@ loop-call-preserved g c =
       subst (λ (k : History). Ran m k (held new.state.records))
           (sym (history_more calls (vec_items c.loop-call.answers) (vec_items c.push.new.self) i call a c.loop-call-test.true c.call-item.is c.in_ok-push.ensures.items))
           (ran_more m h (held old.state.records) (held new.state.records) (call_of call) (answer_of a) c.loop-call.invariant.1 called),
+      subst (All Bare) (sym c.in_ok-push.ensures.items) (All-push Bare (vec_items c.loop-call.answers) a c.loop-call.invariant.2 c.in_ok-carry_out.ensures.bare),
     )
