@@ -40,8 +40,11 @@ loop-letter-preserved g c =
           (paired calls pair i in_pairs is ∙ ap (λ n. get_or pair 0 0 ∷ n ∷ drop (2 * (i + 1)) calls) (sym c.from-number.ensures)) v t answer c.worth-total.result c.in-Some.ensures.verb called c.worth-total.ensures.worth,
     )
 
-pub returns-clause-total : goal.returns-clause-total
-returns-clause-total g c =
+pub returns : goal.returns
+returns g c =
     let calls = c.args.calls.now in
-    let i = c.loop-letter.letter-index in
-    all_calls (g.S.CcSystem.meaning c.args.system) calls (held c.loop-letter.hull.state.records) c.loop-letter.total (drop (2 * i) calls) (omega (arith, length-drop (2 * i) calls, c.loop-letter-test.false, c.as_chunks.ensures.front_len)) (omega (arith, c.loop-letter.auto.total-fits)) c.loop-letter.invariant.1
+    let rest = drop (2 * c.loop-letter.letter-index) calls in
+    let few : length rest < 2 = omega (arith, length-drop (2 * c.loop-letter.letter-index) calls, c.loop-letter-test.false, c.as_chunks.ensures.front_len) in
+    record {
+      total = all_calls (g.S.CcSystem.meaning c.args.system) calls (held c.loop-letter.hull.state.records) c.loop-letter.total rest few (omega (arith, c.loop-letter.auto.total-fits)) c.loop-letter.invariant.1;
+    }
