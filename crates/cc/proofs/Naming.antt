@@ -14,9 +14,6 @@ use Rattle.cc.specs.declared.faults.Fault.{Fault}
 use Rattle.cc.specs.Names.{Bad, Judged, too_long, bad, accepted}
 use Rattle.cc.specs.Turns.{Told}
 
-pub accepted_short : {n : ℕ} {xs : List ℕ} → Judged n xs None → length xs ≤ 128
-accepted_short (accepted short never) = short
-
 pub accepted_different : {n : ℕ} {xs : List ℕ} → Judged n xs None → T (different n xs)
 accepted_different {n} {xs} (accepted short never) =
     different_if n xs (λ i h. small (named xs i) (λ k. never i h (inl k))) (λ i j h k e. never j k (inr (i, h, e)))
@@ -41,9 +38,6 @@ module _ (m : Meaning) (xs : List ℕ) where
     where
       out : {p q r : ℕ} → Left (renamed m []) p q r → ⊥
       out l = let i = l.three.p_in in omega arith
-
-  renamed_within : (p : ℕ) → p < (renamed m xs).count → p < length xs
-  renamed_within p h = (passes (namable m xs) p (length xs) h).1
 
   renamed_told : (p q r : ℕ) → p < (renamed m xs).count → q < (renamed m xs).count → r < (renamed m xs).count
       → (o : Option Turn) → Told m (named xs p) (named xs q) (named xs r) o → Told (renamed m xs) p q r o
@@ -70,7 +64,3 @@ told_below m xs short apart {p} {q} {r} {u} {v} {w} hp hq hr o h =
     (subst (λ z. Told m (named xs p) (named xs q) z o) (sym hr.is)
     (subst (λ y. Told m (named xs p) y w o) (sym hq.is)
     (subst (λ x. Told m x v w o) (sym hp.is) h)))
-
--- a renaming by the same names of the same meaning
-pub same_names : (m : Meaning) (xs : List ℕ) → Same (renamed m xs) (renamed m xs)
-same_names m xs = record { count = refl; turns = λ p q r. Iff.rfl }

@@ -13,9 +13,6 @@ use Rattle.hull.specs.Histories.{Called, Moved, comes, goes, declines, asks}
 pub same_self : {m : Meaning} → Same m m
 same_self = record { count = refl; turns = λ p q r. (λ l. l, λ l. l) }
 
-pub same_back : {m n : Meaning} → Same m n → Same n m
-same_back e = record { count = sym e.count; turns = λ p q r. ((e.turns p q r).1, (e.turns p q r).0) }
-
 pub same_lawful : {m n : Meaning} → Same m n → Lawful m → Lawful n
 same_lawful e L =
     record {

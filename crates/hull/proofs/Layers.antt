@@ -12,17 +12,6 @@ use Rattle.hull.specs.Records.{flagged}
 
 -- ---- one ring off
 
-set_at : (l : List ℕ) (a v p : ℕ) → a < length l → p ≡ a → get_or (set l a v) p 0 ≡ v
-set_at l a v p h e = ap (λ k. get_or (set l a v) k 0) e ∙ get_or-set_same l a v 0 h
-
-clear_at : (l : List Bool) (a p : ℕ) → p ≡ a → flagged (set l a false) p ≡ false
-clear_at l a p e = ap (flagged (set l a false)) e ∙ go l a
-  where
-    go : (l : List Bool) (a : ℕ) → flagged (set l a false) a ≡ false
-    go [] a = refl
-    go (b ∷ l) zero = refl
-    go (b ∷ l) (suc a) = go l a
-
 -- the first n entries are cleared, and the others stay
 pub cleared : (entries front : List ℕ) (n : ℕ) → length front ≡ n → n ≤ length entries → ((p : ℕ) → p < n → get_or front p 0 ≡ 0)
     → ((p : ℕ) → p < n → get_or (front ++ drop n entries) p 0 ≡ 0) × ((p : ℕ) → n ≤ p → get_or (front ++ drop n entries) p 0 ≡ get_or entries p 0)

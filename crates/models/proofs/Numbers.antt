@@ -39,7 +39,3 @@ threes_computed = tt
 pub threes_is : (n : ℕ) → n ≤ 24 → threes n ≡ threes_of n
 unfolding threes_right
 threes_is n h = eqb→eq (threes n) (threes_of n) (both (eqb (threes n) (threes_of n)) _ (all_at 25 threes_right threes_computed n (omega arith))).0
-
-pub threes_few : (n : ℕ) → n ≤ 24 → threes_of n ≤ 2024
-unfolding threes_right
-threes_few n h = leb→le (threes_of n) 2024 (both (eqb (threes n) (threes_of n)) _ (all_at 25 threes_right threes_computed n (omega arith))).1

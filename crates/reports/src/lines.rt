@@ -17,6 +17,7 @@ pub(crate) fn write_line(out: &mut String, word: &str, numbers: &[usize]) -> Res
 }
 
 // Writes a line for each mark: the mark and its round.
+// stays beside `write_pairs`: of one for both each caller would make the pairs, and name the word
 pub(crate) fn write_rounds(out: &mut String, rounds: &[usize]) -> Result<(), AllocError>
     ensures written { OnOk result (string_bytes out.new ≡ string_bytes out.old ++ round_lines rounds.now) }
 {
@@ -44,6 +45,7 @@ pub(crate) fn write_refusal(out: &mut String, fault: Fault) -> Result<(), AllocE
 }
 
 // Writes the refusal of a star.
+// stays beside `write_refusal`: the two share what prints a fault, and differ in the word
 pub(crate) fn write_star_refusal(out: &mut String, fault: Fault) -> Result<(), AllocError>
     ensures written { OnOk result (string_bytes out.new ≡ string_bytes out.old ++ fault_line (codes "star\tno") fault) }
 {

@@ -18,6 +18,7 @@ fn sheet_told(
 ) -> anyhow::Result<String> {
     let mut told = format!(in heap; "{kind} {count}")?;
     let due = kind.due(count);
+    // stay three loops: the values of each kind have a type of their own, and a place is written as two numbers
     match kind {
         Kind::Points => {
             for Place { x, y } in places.iter().take(due) {

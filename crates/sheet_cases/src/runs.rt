@@ -7,33 +7,28 @@ use std::fmt::Write;
 use std::io::Read;
 
 // How many cases were run, and how many of them differ.
-#[derive(Clone, Copy)]
 struct Score {
     cases: usize,
     differ: usize,
 }
 
-// Reads the text, and prints `ok NAME` or the difference.
-fn compare(
-    rt: &HostRuntime,
-    name: &str,
-    told: &str,
-    expected: &str,
-    score: Score,
-) -> anyhow::Result<Score> {
-    let cases = score.cases.saturating_add(1);
-    if told.as_bytes() == expected.as_bytes() {
-        println!(rt; "ok {name}")?;
-        Ok(Score {
-            cases,
-            differ: score.differ,
-        })
-    } else {
-        println!(rt; "differs {name}: {told} in place of {expected}")?;
-        Ok(Score {
-            cases,
-            differ: score.differ.saturating_add(1),
-        })
+impl Score {
+    // Counts a case, and prints `ok NAME` or the difference.
+    fn count(
+        &mut self,
+        rt: &HostRuntime,
+        name: &str,
+        told: &str,
+        expected: &str,
+    ) -> anyhow::Result<()> {
+        self.cases = self.cases.saturating_add(1);
+        if told == expected {
+            println!(rt; "ok {name}")?;
+        } else {
+            self.differ = self.differ.saturating_add(1);
+            println!(rt; "differs {name}: {told} in place of {expected}")?;
+        }
+        Ok(())
     }
 }
 
@@ -52,14 +47,14 @@ fn decoded(heap: Global, sheet: &str) -> anyhow::Result<Vec<u8>> {
     Ok(text)
 }
 
-fn try_line(rt: &HostRuntime, line: &str, score: Score) -> anyhow::Result<Score> {
+fn try_line(rt: &HostRuntime, line: &str, score: &mut Score) -> anyhow::Result<()> {
     let heap = rt.alloc();
     let (name, after_name) = line.split_once('|').context("no name")?;
     let (room, after_room) = after_name.split_once('|').context("no room")?;
     let (expected, sheet) = after_room.split_once('|').context("no answer")?;
     let text = decoded(heap, sheet)?;
     let told = answer(heap, room.parse::<usize>()?, &text)?;
-    compare(rt, name, &told, expected, score)
+    score.count(rt, name, &told, expected)
 }
 
 // A table of 24 marks, all turning right.
@@ -83,30 +78,30 @@ fn repeated(heap: Global, first: &str, second: &str, times: usize) -> anyhow::Re
     Ok(format!(in heap; "{first}{rest}")?)
 }
 
-fn try_largest(rt: &HostRuntime, score: Score) -> anyhow::Result<Score> {
+fn try_largest(rt: &HostRuntime, score: &mut Score) -> anyhow::Result<()> {
     let heap = rt.alloc();
     let marks = repeated(heap, "P\t128\n", "m\t-7\t9999\n", 128)?;
     let places = repeated(heap, "P 128", " -7,9999", 128)?;
     let told = answer(heap, 128, marks.as_bytes())?;
-    let score = compare(rt, "128 marks", &told, &places, score)?;
+    score.count(rt, "128 marks", &told, &places)?;
     let wires = repeated(heap, "W\t32\n", "c\t30\n", 496)?;
     let crossings = repeated(heap, "W 32", " 30", 496)?;
     let told = answer(heap, 496, wires.as_bytes())?;
-    let score = compare(rt, "32 wires", &told, &crossings, score)?;
+    score.count(rt, "32 wires", &told, &crossings)?;
     let table = largest_table(heap)?;
     let turns = repeated(heap, "T 24", " R", 2024)?;
     let told = answer(heap, 2024, table.as_bytes())?;
-    compare(rt, "a table of 24 marks", &told, &turns, score)
+    score.count(rt, "a table of 24 marks", &told, &turns)
 }
 
-fn try_longest(rt: &HostRuntime, score: Score) -> anyhow::Result<Score> {
+fn try_longest(rt: &HostRuntime, score: &mut Score) -> anyhow::Result<()> {
     let heap = rt.alloc();
     let long = repeated(heap, "P\t0\n", "x", 32_764)?;
     let told = answer(heap, 0, long.as_bytes())?;
-    let score = compare(rt, "32768 bytes", &told, "no 3 2", score)?;
+    score.count(rt, "32768 bytes", &told, "no 3 2")?;
     let longer = repeated(heap, "P\t0\n", "x", 32_765)?;
     let told = answer(heap, 0, longer.as_bytes())?;
-    compare(rt, "32769 bytes", &told, "no 2 0", score)
+    score.count(rt, "32769 bytes", &told, "no 2 0")
 }
 
 // Runs all cases, prints a line for each and their number, and fails where one differs.
@@ -118,10 +113,10 @@ pub(crate) fn run(rt: &HostRuntime) -> anyhow::Result<()> {
         differ: 0,
     };
     for line in table.lines() {
-        score = try_line(rt, line, score)?;
+        try_line(rt, line, &mut score)?;
     }
-    score = try_largest(rt, score)?;
-    score = try_longest(rt, score)?;
+    try_largest(rt, &mut score)?;
+    try_longest(rt, &mut score)?;
     let Score { cases, differ } = score;
     println!(rt; "{cases} cases, {differ} differ")?;
     if differ > 0 {

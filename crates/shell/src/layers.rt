@@ -87,7 +87,8 @@ fn no_layer(heap: Global, word: usize) -> Result<String, AllocError>
 }
 
 // Puts the layers that the words name over the system, and makes the calls of the script.
-// Stays with a `match` on each refusal: what is printed for one is an answer here, and the only error is want of memory.
+// Stays with a `match` on each refusal: what is printed for one is an answer here, and the only error is want of memory. And the heap and the
+// script stay arguments: a struct of the two would be taken apart in each function.
 pub fn with_words<S: CcSystem + Drop>(
     heap: Global,
     system: S,
