@@ -7,6 +7,7 @@ use std::fmt::Write;
 use std::io::Read;
 
 // How many cases were run, and how many of them differ.
+#[derive(Drop)]
 struct Score {
     cases: usize,
     differ: usize,
