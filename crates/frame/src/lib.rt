@@ -18,6 +18,7 @@
 mod answers;
 mod tallies;
 
+ghost use Rattle.std.specs.Prelude.{◌≡◌, string_bytes, MatchResult};
 ghost use Rattle.reports.specs.Reports.{Reports};
 ghost use Rattle.shell.specs.Consoles.{Console};
 ghost use Rattle.frame.specs.Handing.{Copied, Handed};
@@ -26,7 +27,7 @@ ghost use Rattle.frame.specs.Tallies.{OneTally, Tally};
 use cc::lists::copy_front;
 use reports::report;
 use shell::console;
-use std::alloc::Global;
+use std::alloc::{AllocError, Global};
 use tallies::tally;
 
 // Copies the text to the front of `out`, if there is room for all of it; its length.
@@ -37,16 +38,23 @@ fn copy(text: &[u8], out: &mut [u8]) -> usize
     text.len()
 }
 
+// Hands a text over, or says that memory was wanting.
+fn handed(said: Result<String, AllocError>, out: &mut [u8]) -> usize
+    ensures handed { MatchResult said (λ text. Copied (string_bytes text) out.old result out.new) (λ _. (result ≡ 18446744073709551615) × (out.new ≡ out.old)) }
+{
+    match said {
+        Ok(said) => copy(said.as_bytes(), out),
+        // stays a number: C has no `Result`
+        Err(_) => usize::MAX,
+    }
+}
+
 // Writes the report of a sheet's text.
 #[unsafe(no_mangle)]
 pub extern "C" fn moarduft_report(heap: Global, text: &[u8], out: &mut [u8]) -> usize
     ensures report { Handed (Reports text.now) out.old result out.new }
 {
-    match report(heap, text) {
-        Ok(said) => copy(said.as_bytes(), out),
-        // stays a number: C has no `Result`
-        Err(_) => usize::MAX,
-    }
+    handed(report(heap, text), out)
 }
 
 // Writes what is printed for a sheet, the words of layers, and a script of calls.
@@ -60,11 +68,7 @@ pub extern "C" fn moarduft_console(
 ) -> usize
     ensures console { Handed (Console text.now layers.now script.now) out.old result out.new }
 {
-    match console(heap, text, layers, script) {
-        Ok(said) => copy(said.as_bytes(), out),
-        // stays a number: C has no `Result`
-        Err(_) => usize::MAX,
-    }
+    handed(console(heap, text, layers, script), out)
 }
 
 // Opens the sheet, makes the calls so many times, each time on an unused hull over its system, and adds up what the answers are worth,

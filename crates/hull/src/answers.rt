@@ -10,7 +10,7 @@ pub enum Side {
 }
 
 // What an add did: where the mark stands, and how many marks left the outline, none where it stands within.
-// Stays a struct: what an add answers is a side and a number, of every mark, and is told and printed so.
+// Stays a struct: a mark within is told and printed with its number too, which is 0, and who calls reads the two fields.
 #[derive(Clone, Copy, PartialEq, Eq, Debug)]
 pub struct Added {
     pub side: Side,

@@ -70,7 +70,7 @@ impl Ring {
         let marks = &self.marks[..];
         let closing_seen = lies_right(system, marks[marks.len() - 1], marks[0], x);
         let mut new = Ring::empty();
-        // Stay carried from mark to mark: whether the arc to it is seen is what was asked about the arc from the one before.
+        // Stay carried from mark to mark: a zip of the ring with itself would ask about each arc twice, from both of its marks.
         let mut mark = marks[0];
         let mut seen_to = closing_seen;
         for next in &marks[1..] {

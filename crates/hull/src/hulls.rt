@@ -16,7 +16,8 @@ use cc::lists::copy_front;
 
 // Some marks of a CC system, those that are in, and the outline around them. A mark is in from an add of it that is
 // not declined until the next such drop.
-// Stay two facts in each clause, what the system means and which marks are in: a model of both would be taken apart in each.
+// Stay in each clause what the system means, which marks are in, and that the system is the same: a model of the three would be taken apart
+// in each.
 #[derive(Drop)]
 pub struct DynamicHull<S: CcSystem> {
     pub(crate) system: S,

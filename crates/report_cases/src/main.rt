@@ -10,7 +10,8 @@ use std::alloc::Global;
 use std::io::Read;
 
 // The bytes of a sheet, from its line in the table.
-// stays here, though `sheet_cases` has its own: two programs share only libraries, and a library for eight lines is longer than both
+// stays here, though `sheet_cases` has one that knows `~` too: two programs share only libraries, and a library for eight lines is longer
+// than both
 fn decoded(heap: Global, sheet: &str) -> anyhow::Result<Vec<u8>> {
     let mut text = Vec::new(heap);
     for b in sheet.bytes() {

@@ -23,6 +23,7 @@ pub fn report(heap: Global, text: &[u8]) -> Result<String, AllocError>
 {
     let mut out = String::new(heap);
     let mut room = Room::new();
+    // stays a `match`, as for the star: what is written for a refusal is part of the report, and the only error is want of memory
     let system = match open(&mut room, text) {
         Ok(system) => system,
         Err(fault) => {

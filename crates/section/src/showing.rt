@@ -22,6 +22,7 @@ pub fn show_turns<S: CcSystem>(rt: &HostRuntime, name: &str, system: &S) -> anyh
 }
 
 // A refusal, by its number and its five places.
+// stay this program's own, this and `word`: it shows the places that a refusal does not use, and names what a call wrote
 fn show_fault(rt: &HostRuntime, name: &str, fault: Fault) -> anyhow::Result<()> {
     let number = fault.number();
     let places = fault.places();

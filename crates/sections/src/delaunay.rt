@@ -51,7 +51,7 @@ impl<'a> Centre<'a> {
     fn pairs(&self) -> ArrayVec<(usize, usize), LIMIT>
         ensures pairs { StarPairs self.now.points.places.now self.now.mark result.items }
     {
-        // stays a loop: to `collect` into an `ArrayVec` asks for an allocator, and may fail
+        // stays a loop: `collect` into an `ArrayVec` asks for an allocator, and `extend` answers a `Result` that would be taken apart
         let mut pairs = ArrayVec::new();
         for i in 0..self.star.count() {
             if let Some(pair) = self.pair(i) {

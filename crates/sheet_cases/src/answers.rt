@@ -39,6 +39,8 @@ fn sheet_told(
     Ok(told)
 }
 
+// The number of a refusal and its first place.
+// stays this program's own: the table of cases tells no other places
 fn refusal_told(heap: Global, fault: Fault) -> anyhow::Result<String> {
     let number = fault.number();
     let [place, ..] = fault.places();

@@ -34,7 +34,8 @@ impl Score {
 }
 
 // The bytes of a sheet, from its line in the table.
-// stays here, though `report_cases` has its own: two programs share only libraries, and a library for eight lines is longer than both
+// stays here, though `report_cases` has one that knows no `~`: two programs share only libraries, and a library for eight lines is longer
+// than both
 fn decoded(heap: Global, sheet: &str) -> anyhow::Result<Vec<u8>> {
     let mut text = Vec::new(heap);
     for b in sheet.bytes() {

@@ -1,7 +1,15 @@
 -- Answers that are added to the text, line by line. Assumes nothing.
-use Rattle.std.proofs.Common.{◌≡◌, ℕ, ◌+◌, ◌<◌, Bool, ◌≢◌, List, [], ◌∷◌, ◌++◌, length, sym, refl, ap, ◌∙◌, subst, append_assoc, append-nil, arith, length-append}
+use Rattle.std.proofs.Common.{Bor, Option, Some, None, MatchOption, subst₂, ◌≡◌, ℕ, ◌+◌, ◌<◌, Bool, ◌≢◌, List, [], ◌∷◌, ◌++◌, length, sym, refl, ap, ◌∙◌, subst, append_assoc, append-nil, arith, length-append}
+use Rattle.std.specs.Option.{option_or}
 use Rattle.laws.specs.Systems.{Meaning}
+use Rattle.sheet.specs.Fields.{Lacks}
 use Rattle.shell.specs.Dialogues.{Begins, ended, last, Dialogue, more, Exchange}
+
+-- what is cut off at a byte 10, or else the whole text
+pub first_line : (text : List ℕ) (parts : Option (Bor (List ℕ) × Bor (List ℕ))) (whole : Bor (List ℕ) × Bor (List ℕ)) → text ≢ [] → whole.0.now ≡ text → whole.1.now ≡ []
+    → MatchOption parts (Lacks 10 text) (λ p. Lacks 10 p.0.now × (text ≡ p.0.now ++ 10 ∷ p.1.now)) → MatchOption (option_or parts (Some whole)) (text ≡ []) (λ p. Begins text p.0.now p.1.now)
+first_line text (Some p) whole some line rest cut = subst (λ t. Begins t p.0.now p.1.now) (sym cut.1) (ended cut.0)
+first_line text None whole some line rest lacks = subst₂ (Begins text) (sym line) (sym rest) (last lacks some)
 
 -- what follows a line is shorter than the text
 pub rest_shorter : {script line rest : List ℕ} → Begins script line rest → length rest < length script

@@ -69,7 +69,7 @@ impl fmt::Display for Verb {
 }
 
 // Whether the bytes are those of the word.
-// Stays a function: a pattern like b"census" can stand where the word is known, but not in `verb_of`, whose word is a value.
+// Stays a function: without it each place would compare with `b"census".as_slice()` or `verb.word().as_bytes()`, which is no plainer.
 pub(crate) fn is(bytes: &[u8], word: &str) -> bool
     ensures same { MatchBool result (bytes.now ≡ word.now) (bytes.now ≢ word.now) }
 {
@@ -77,6 +77,7 @@ pub(crate) fn is(bytes: &[u8], word: &str) -> bool
 }
 
 // The call that a word names.
+// stays an `Option`, and no `TryFrom`: there is one way to be no word of a call, and an error would say nothing more
 fn verb_of(word: &[u8]) -> Option<Verb>
     ensures verb { MatchOption result ((v : Verb) → word.now ≢ name v) (λ v. word.now ≡ name v) }
 {

@@ -21,10 +21,7 @@ fn next_line(text: &[u8]) -> Option<(&[u8], &[u8])>
     if text.is_empty() {
         return None;
     }
-    match cut(text, b'\n') {
-        Some(parts) => Some(parts),
-        None => Some((text, &[])),
-    }
+    cut(text, b'\n').or(Some((text, &[])))
 }
 
 // Makes a call, and adds the line that answers it.

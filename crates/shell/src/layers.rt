@@ -44,6 +44,7 @@ fn with_layer<S: CcSystem + Drop>(
 }
 
 // The names of a renaming, parted by commas; none where an entry is no number.
+// stays an `Option` within a result, as in `layer_of`: a word that names nothing is told of by its number, and not by why
 fn names(heap: Global, text: &[u8]) -> Result<Option<Vec<usize>>, AllocError>
     ensures names { IfOk result (λ o. MatchOption o (Says SomeNames joined text.now None) (λ v. Says SomeNames joined text.now (Some v.items))) }
 {
@@ -73,10 +74,7 @@ fn layer_of(heap: Global, word: &[u8]) -> Result<Option<Layer>, AllocError>
     if text.is_empty() {
         return Ok(Some(Layer::Renaming(Vec::new(heap))));
     }
-    match names(heap, text)? {
-        Some(names) => Ok(Some(Layer::Renaming(names))),
-        None => Ok(None),
-    }
+    Ok(names(heap, text)?.map(Layer::Renaming))
 }
 
 // The line for a word, by its number, that names no layer.

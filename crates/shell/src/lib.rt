@@ -27,6 +27,7 @@ pub fn console(
     ensures console { IfOk result (λ out. Console text.now layers.now script.now (string_bytes out)) }
 {
     let mut room = Room::new();
+    // stays a `match`: what is printed for a refusal is an answer, and the only error is want of memory
     match open(&mut room, text) {
         Ok(system) => with_words(heap, system, layers, script),
         Err(fault) => refusal(heap, fault),

@@ -56,7 +56,7 @@ impl Offset {
 }
 
 // Twice the signed area of the triangle p q r.
-// stay clauses, here and at `between`, `to` and `star_determinant`: the places come out of a list of which one fact says that all are near,
+// stay clauses, here, at `between`, `to` and `star_determinant`, and for a tape's step: the places come out of a list of which one fact says that all are near,
 // and a type for a near place would be made anew at each read
 pub(crate) fn determinant(p: Place, q: Place, r: Place) -> i64
     requires p { Near p }

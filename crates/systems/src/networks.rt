@@ -89,7 +89,7 @@ pub struct ReflectionNetwork<'a> {
 impl<'a> ReflectionNetwork<'a> {
     // The network of the crossings, after a check of all of them. A refused network has no wires and tells its fault.
     // Stays beside the table's `open`, and `Crossings` beside `Turns`: of one for both the empty system and the bounds would be asked of a
-    // trait.
+    // trait; and so do `Points::open` and `Star::about`, for what they hold.
     pub fn open(count: usize, crossings: &'a [usize]) -> ReflectionNetwork<'a>
         ensures judged { Judged count crossings.now result.fault }
         ensures network { (result.fault ≡ None) ↔ ((count ≤ 32) × Network count crossings.now) }

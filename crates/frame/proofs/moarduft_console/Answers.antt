@@ -1,9 +1,7 @@
-use Rattle.std.proofs.Common.{subst}
-use Rattle.frame.specs.Handing.{Copied, handed, no_memory}
+use Rattle.std.proofs.Common.{string_bytes}
+use Rattle.shell.specs.Consoles.{Console}
+use Rattle.frame.proofs.Copying.{handed_by}
 use Rattle.frame.proofs.moarduft_console.Goals as goal
 
-pub returns-in-Ok : goal.returns-in-Ok
-returns-in-Ok c = record { console = handed c.in-Ok.ensures.console (subst (λ t. Copied t c.args.out.now c.copy.result c.copy.new.out) c.as_bytes.ensures.value c.copy.ensures.copied) }
-
-pub returns-in-Err : goal.returns-in-Err
-returns-in-Err c = record { console = no_memory }
+pub returns : goal.returns
+returns c = record { console = handed_by string_bytes (Console c.args.text.now c.args.layers.now c.args.script.now) c.console.result c.args.out.now c.handed.new.out c.handed.result c.console.ensures.console c.handed.ensures.handed }

@@ -1,9 +1,7 @@
-use Rattle.std.proofs.Common.{subst}
-use Rattle.frame.specs.Handing.{Copied, handed, no_memory}
+use Rattle.std.proofs.Common.{string_bytes}
+use Rattle.reports.specs.Reports.{Reports}
+use Rattle.frame.proofs.Copying.{handed_by}
 use Rattle.frame.proofs.moarduft_report.Goals as goal
 
-pub returns-in-Ok : goal.returns-in-Ok
-returns-in-Ok c = record { report = handed c.in-Ok.ensures.report (subst (λ t. Copied t c.args.out.now c.copy.result c.copy.new.out) c.as_bytes.ensures.value c.copy.ensures.copied) }
-
-pub returns-in-Err : goal.returns-in-Err
-returns-in-Err c = record { report = no_memory }
+pub returns : goal.returns
+returns c = record { report = handed_by string_bytes (Reports c.args.text.now) c.report.result c.args.out.now c.handed.new.out c.handed.result c.report.ensures.report c.handed.ensures.handed }
