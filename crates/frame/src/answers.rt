@@ -5,9 +5,9 @@ ghost use Rattle.hull.specs.declared.histories.Reply.TheVariants as reply;
 ghost use Rattle.hull.specs.Histories.{told};
 ghost use Rattle.frame.specs.Tallies.{worth, wrapped};
 
+use cc::faults::Fault;
 use hull::answers::{Added, Placed, Side};
 use hull::histories::Reply;
-use shell::calls::Answer;
 
 // A number and the entries of a list, added up.
 fn sum_of(first: usize, list: &[usize]) -> usize
@@ -28,18 +28,18 @@ fn of_added(added: Added) -> usize
     }
 }
 
-// What an answer is worth.
-pub(crate) fn worth(answer: &Answer) -> usize
-    ensures worth { result ≡ wrapped (worth (told answer.now.reply answer.now.list.items)) }
+// What an answer is worth, with the list as the call has left it.
+pub(crate) fn worth(reply: Result<Reply, Fault>, list: &[usize]) -> usize
+    ensures worth { result ≡ wrapped (worth (told reply list.now)) }
 {
-    match answer.reply {
+    match reply {
         Ok(Reply::Added(added)) => of_added(added),
         Ok(Reply::Dropped(came)) => came,
         Ok(Reply::Placed(Placed::Edge(position))) => position,
         Ok(Reply::Placed(Placed::Inside(first, second)) | Reply::Beside(first, second)) => {
             first.wrapping_add(second)
         }
-        Ok(Reply::Wrote(number)) => sum_of(number, &answer.list),
+        Ok(Reply::Wrote(number)) => sum_of(number, list),
         Err(fault) => fault.number(),
     }
 }

@@ -4,6 +4,7 @@ ghost use Rattle.std.specs.Prelude.{◌≡◌, ◌≢◌, MatchOption};
 ghost use Rattle.frame.specs.Tallies.{Tally, Total, Totals, letter};
 
 use super::answers::worth;
+use arrayvec::ArrayVec;
 use cc::CcSystem;
 use hull::hulls::DynamicHull;
 use opening::open;
@@ -32,6 +33,7 @@ fn tally_once<S: CcSystem + Drop>(system: S, calls: &[u8]) -> usize
     ensures total { Total (S.CcSystem.meaning system) calls.now result }
 {
     let mut hull = DynamicHull::over(system);
+    let mut list = ArrayVec::new();
     let mut total = 0usize;
     let (pairs, _odd) = calls.as_chunks::<2>();
     for [letter, number] in pairs {
@@ -39,8 +41,8 @@ fn tally_once<S: CcSystem + Drop>(system: S, calls: &[u8]) -> usize
             continue;
         };
         let number = usize::from(*number);
-        let answer = make(&mut hull, Call { verb, number });
-        total = total.wrapping_add(worth(&answer));
+        let reply = make(&mut hull, Call { verb, number }, &mut list);
+        total = total.wrapping_add(worth(reply, &list));
     }
     total
 }

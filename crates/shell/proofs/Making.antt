@@ -1,8 +1,6 @@
 -- What is told of the calls that are made.
-use Rattle.std.proofs.Common.{◌≡◌, ℕ, ◌<◌, ◌≤◌, ◌⊎◌, inl, inr, Bool, List, [], ◌++◌, length, take, replicate, Ok, Err, Result, MatchResult, sym, refl, ap, ◌∙◌, subst, append-nil, arith}
-use Rattle.std.proofs.lemmas.List.{drop_all, take_all, take-replicate}
-use Rattle.std.proofs.Math.Nat.{min-eq_left, min-eq_right}
-use Rattle.std.proofs.lemmas.Bool.{cases_lt}
+use Rattle.std.proofs.Common.{◌≡◌, ℕ, Bool, List, [], ◌++◌, length, take, Ok, Err, Result, MatchResult, refl, ap, ◌∙◌, subst, append-nil, arith}
+use Rattle.std.proofs.lemmas.List.{drop_all, take_all}
 use Rattle.std.specs.List.{refill}
 use Rattle.std.specs.Result.{IsOkAnd}
 use Rattle.laws.specs.Systems.{Meaning}
@@ -28,14 +26,6 @@ module _ (m : Meaning) (s t : ℕ → Bool) (call : Call) (v : Verb) (is : call.
       → Answers m s (call_of v call.number) (answer r) → Moved s t (call_of v call.number) (answer r) → Called m s t (meant call) a
   made_by of answer ok err r reply a mapped e h moved =
       called_by m s t (call_of v call.number) (meant call) (answer r) a (ap (λ v. call_of v call.number) is) (e ∙ told_by of answer [] ok err r reply mapped) h moved
-
--- as many zeros as there is room for
-pub handed_by : (room : ℕ) → take room (replicate 128 0) ≡ handed room
-handed_by room = by_order (cases_lt room 128)
-  where
-    by_order : (room < 128) ⊎ (128 ≤ room) → take room (replicate 128 0) ≡ handed room
-    by_order (inl few) = take-replicate room 128 0 (omega (arith, few)) ∙ ap (λ n. replicate n 0) (sym (min-eq_left (omega (arith, few))))
-    by_order (inr many) = take_all room (replicate 128 0) (omega (arith, many)) ∙ ap (λ n. replicate n 0) (sym (min-eq_right many))
 
 module _ (m : Meaning) (s : ℕ → Bool) (call : Call) (v : Verb) (is : call.verb ≡ v) (asking : List ℕ → TheCall) (named : call_of v call.number ≡ asking (handed call.number)) (question : IsQuestion (asking (handed call.number))) where
   -- a call that writes into the list, which it is lent for it

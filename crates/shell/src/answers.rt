@@ -4,8 +4,8 @@ ghost use Rattle.std.specs.Prelude.{◌≡◌, ◌++◌, string_bytes, take, OnO
 ghost use Rattle.hull.specs.Histories.{told};
 ghost use Rattle.shell.specs.Texts.{entries_of, shown};
 
-use super::calls::Answer;
 use super::commands::Verb;
+use cc::faults::Fault;
 use cc::texts::Tabbed;
 use hull::histories::Reply;
 use std::alloc::AllocError;
@@ -23,18 +23,19 @@ fn entries(verb: Verb, count: usize, reply: Reply, list: &[usize]) -> &[usize]
     &list[..shown.min(list.len())]
 }
 
-// Adds what a call answered, in a system of so many marks.
+// Adds what a call answered, in a system of so many marks; the list is as the call has left it.
 pub(crate) fn put_answer(
     out: &mut String,
     verb: Verb,
     count: usize,
-    answer: &Answer,
+    reply: Result<Reply, Fault>,
+    list: &[usize],
 ) -> Result<(), AllocError>
-    ensures put { OnOk result (string_bytes out.new ≡ string_bytes out.old ++ shown count verb (told answer.now.reply answer.now.list.items)) }
+    ensures put { OnOk result (string_bytes out.new ≡ string_bytes out.old ++ shown count verb (told reply list.now)) }
 {
-    match answer.reply {
+    match reply {
         Ok(reply) => {
-            let entries = Tabbed(entries(verb, count, reply, &answer.list));
+            let entries = Tabbed(entries(verb, count, reply, list));
             write!(out, "\t{reply}{entries}")
         }
         Err(fault) => write!(out, "\t{fault}"),

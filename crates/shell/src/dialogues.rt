@@ -7,6 +7,7 @@ ghost use Rattle.shell.specs.Dialogues.{Begins, CalledLine, Dialogue, Exchanged}
 use super::answers::put_answer;
 use super::calls::make;
 use super::commands::{Call, Command, parse};
+use arrayvec::ArrayVec;
 use cc::CcSystem;
 use hull::hulls::DynamicHull;
 use sheet::numbers::cut;
@@ -34,9 +35,10 @@ fn call_line<S: CcSystem>(
     ensures system { hull.new.system ≡ hull.old.system }
 {
     let Call { verb, number } = call;
-    let answer = make(hull, call);
+    let mut list = ArrayVec::new();
+    let reply = make(hull, call, &mut list);
     write!(out, "{verb}\t{number}")?;
-    put_answer(out, verb, hull.count(), &answer)?;
+    put_answer(out, verb, hull.count(), reply, &list)?;
     out.push_str("\n")
 }
 

@@ -32,10 +32,10 @@ loop-letter-preserved g c =
     let v = c.in-Some.verb in
     let k = c.from-number.result in
     let s = held c.loop-letter.hull.state.records in
-    let t = held c.make-answer.new.hull.state.records in
-    let answer = told c.make-answer.result.reply c.make-answer.result.list.items in
-    let called = subst (λ (n : Meaning). Called n s t (call_of v k) answer) (ap g.S.CcSystem.meaning c.loop-letter.invariant.0) c.make-answer.ensures.called in (
-      c.make-answer.ensures.system ∙ c.loop-letter.invariant.0,
+    let t = held c.make-reply.new.hull.state.records in
+    let answer = told c.make-reply.result c.deref.result.now in
+    let called = subst (λ (n : Meaning). Called n s t (call_of v k) answer) (ap g.S.CcSystem.meaning c.loop-letter.invariant.0) (subst (λ l. Called (g.S.CcSystem.meaning c.loop-letter.hull.system) s t (call_of v k) (told c.make-reply.result l)) (sym c.deref.ensures.0) c.make-reply.ensures.called) in (
+      c.make-reply.ensures.system ∙ c.loop-letter.invariant.0,
       one_more_call m calls s c.loop-letter.total (drop (2 * i) calls) c.loop-letter.invariant.1 (get_or pair 0 0) k (drop (2 * (i + 1)) calls)
           (paired calls pair i in_pairs is ∙ ap (λ n. get_or pair 0 0 ∷ n ∷ drop (2 * (i + 1)) calls) (sym c.from-number.ensures)) v t answer c.worth-total.result c.in-Some.ensures.verb called c.worth-total.ensures.worth,
     )
