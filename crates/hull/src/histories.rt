@@ -43,8 +43,8 @@ pub enum Reply {
 }
 
 // A reply, or why the call was declined; and what the caller's list holds after the call, which is empty where none was handed over.
-// Stays beside the shell's, whose list is of fixed memory; and that it is empty stays a clause of each function that makes one: as a fact in
-// the struct it would be asked of whoever builds one.
+// That the list is empty where no call wrote into it stays a clause of each function that makes an answer: as a fact in the struct it would be
+// asked of whoever builds one.
 #[derive(Drop)]
 pub struct Answer {
     pub reply: Result<Reply, Fault>,
