@@ -14,6 +14,7 @@ use Rattle.hull.specs.declared.histories.Call.TheVariants.{Add, Drop, Ask}
 use Rattle.hull.specs.declared.histories.Reply.{Reply}
 use Rattle.hull.specs.declared.histories.Reply.TheVariants.{Added, Dropped, Placed, Beside, Wrote}
 use Rattle.hull.specs.declared.histories.Answer.{Answer}
+use Rattle.hull.specs.declared.histories.Step.{Step}
 use Rattle.hull.specs.Replies.{side_of}
 
 abbrev pub question_of : Question → TheCall
@@ -26,6 +27,24 @@ abbrev pub call_of : Call → TheCall
 call_of (Add x) = add x
 call_of (Drop x) = drop x
 call_of (Ask q) = question_of q
+
+-- the list that goes with a call; it is empty where none does
+abbrev pub list_of : TheCall → List ℕ
+list_of (add x) = []
+list_of (drop x) = []
+list_of (place x) = []
+list_of (neighbours x) = []
+list_of (outline list) = list
+list_of (rounds list) = list
+
+-- a call with an empty list for its own: all that making it leaves as it is
+abbrev pub stripped : TheCall → TheCall
+stripped (add x) = add x
+stripped (drop x) = drop x
+stripped (place x) = place x
+stripped (neighbours x) = neighbours x
+stripped (outline list) = outline []
+stripped (rounds list) = rounds []
 
 -- a reply or a refusal, with what the caller's list holds afterwards
 abbrev pub told : Result Reply Fault → List ℕ → TheAnswer
@@ -55,6 +74,24 @@ Bare a = bare a.reply (vec_items a.list)
 abbrev pub history : List Call → List Answer → History
 history calls answers = record { calls = map call_of calls; answers = map answer_of answers }
 
+-- the call in a step; and, once it was made, its answer
+abbrev pub call_in : Step → TheCall
+call_in s = call_of s.call
+
+abbrev pub answer_in : Step → TheAnswer
+answer_in s = told s.reply (list_of (call_in s))
+
+-- a history that was made in its place: the calls as they were handed over, and the answers that stand there afterwards
+abbrev pub stepped : List Step → List Step → History
+stepped before after = record { calls = map call_in before; answers = map answer_in after }
+
+-- the same calls, but for what their lists hold
+abbrev pub stripped_in : Step → TheCall
+stripped_in s = stripped (call_in s)
+
+abbrev pub same_calls : List Step → List Step → Type 0
+same_calls before after = map stripped_in after ≡ map stripped_in before
+
 -- how the marks s that are in become t by a call and its answer
 pub data Moved (s t : ℕ → Bool) : TheCall → TheAnswer → Type 0 where
   comes : {x n : ℕ} {side : Standing} → OneMore s x t → Moved s t (add x) (added side n)
@@ -73,11 +110,15 @@ pub record Ran (m : Meaning) (h : History) (s : ℕ → Bool) : Type 0 where
   pub right : Right m h
   pub has : HasIn h s
 
+-- the answer to a question at the end of a history is the defined one, for the marks that are in then
+abbrev pub LastAnswer : Meaning → History → TheCall → TheAnswer → Type 0
+LastAnswer m h q a = (s : ℕ → Bool) → HasIn h s → Answers m s q a
+
 -- two histories were run, each on a hull of its own, and then one question was put to both:
 -- the theorem over whole runs holds of them, each last answer is the defined one for the marks that are in at the end,
 -- and where both hold the same marks and the systems agree in count and in their turns, the two last answers are the same
 pub record Compared (m : Meaning) (h : History) (m' : Meaning) (h' : History) (q : TheCall) (a a' : TheAnswer) : Type 0 where
   pub whole : Whole m h m' h'
-  pub first : (s : ℕ → Bool) → HasIn h s → Answers m s q a
-  pub second : (s : ℕ → Bool) → HasIn h' s → Answers m' s q a'
+  pub first : LastAnswer m h q a
+  pub second : LastAnswer m' h' q a'
   pub same : (s : ℕ → Bool) → HasIn h s → HasIn h' s → Agree m m' s → a ≡ a'

@@ -2,9 +2,10 @@
 
 ghost use Rattle.std.specs.Prelude.{◌≡◌, ℕ, false, List, [], IfOk};
 ghost use Rattle.runs.specs.Calls.{Answers, add, drop};
+ghost use Rattle.runs.specs.Runs.{Whole};
 ghost use Rattle.hull.specs.Records.{held};
 ghost use Rattle.hull.specs.Replies.{added_answer, dropped_answer, placed_answer, neighbours_answer, list_answer};
-ghost use Rattle.hull.specs.Histories.{question_of, call_of, told, answer_of, history, Bare, Called, Ran, Compared};
+ghost use Rattle.hull.specs.Histories.{question_of, call_of, list_of, stripped, told, answer_of, history, stepped, same_calls, bare, Bare, Called, Ran, LastAnswer, Compared};
 ghost use Rattle.std.specs.List.{All};
 
 use super::answers::{Added, Placed};
@@ -51,19 +52,130 @@ pub struct Answer {
     pub list: Vec<usize>,
 }
 
-// The answer to a call that goes with no list.
-fn unlisted(heap: Global, reply: Result<Reply, Fault>) -> Answer
-    ensures reply { result.reply ≡ reply }
-    ensures none { result.list.items ≡ [] }
-{
-    Answer {
-        reply,
-        list: Vec::new(heap),
+// A call that is made in its place in a history: the call, whose list it writes into, and the reply to it. Before the call is made any reply
+// may stand there.
+#[derive(Drop)]
+pub struct Step {
+    pub call: Call,
+    pub reply: Result<Reply, Fault>,
+}
+
+impl Question {
+    // Puts the question to a hull, which writes into the list that goes with it.
+    // Stays apart from the shell's `make`, as a call's does: lists are on the heap here, and of any length.
+    fn put_to<S: CcSystem>(&mut self, hull: &DynamicHull<S>) -> Result<Reply, Fault>
+        ensures answer { Answers (S.CcSystem.meaning hull.now.system) (held hull.now.state.records) (question_of self.old) (told result (list_of (question_of self.new))) }
+        ensures bare { bare result (list_of (question_of self.new)) }
+        ensures same { stripped (question_of self.new) ≡ stripped (question_of self.old) }
+    {
+        match self {
+            Question::Place(mark) => hull.place(*mark).map(Reply::Placed),
+            Question::Neighbours(mark) => {
+                let beside = hull.neighbours(*mark);
+                beside.map(|(before, after)| Reply::Beside(before, after))
+            }
+            Question::Outline(list) => hull.outline(list).map(Reply::Wrote),
+            Question::Rounds(list) => hull.rounds(list).map(Reply::Wrote),
+        }
+    }
+
+    // The same question, with a copy of its list.
+    fn copied(&self, heap: Global) -> Result<Question, AllocError>
+        ensures copied { IfOk result (λ q. question_of q ≡ question_of self.now) }
+    {
+        Ok(match self {
+            Question::Place(mark) => Question::Place(*mark),
+            Question::Neighbours(mark) => Question::Neighbours(*mark),
+            Question::Outline(list) => Question::Outline(Vec::from_slice(heap, list)?),
+            Question::Rounds(list) => Question::Rounds(Vec::from_slice(heap, list)?),
+        })
+    }
+
+    // The list that goes with it; an empty one where none does.
+    fn into_list(self, heap: Global) -> Vec<usize>
+        ensures list { result.items ≡ list_of (question_of self) }
+    {
+        match self {
+            Question::Place(_) | Question::Neighbours(_) => Vec::new(heap),
+            Question::Outline(list) | Question::Rounds(list) => list,
+        }
     }
 }
 
+impl Call {
+    // Makes the call on a hull.
+    fn make_on<S: CcSystem>(&mut self, hull: &mut DynamicHull<S>) -> Result<Reply, Fault>
+        ensures called { Called (S.CcSystem.meaning hull.old.system) (held hull.old.state.records) (held hull.new.state.records) (call_of self.old) (told result (list_of (call_of self.new))) }
+        ensures bare { bare result (list_of (call_of self.new)) }
+        ensures same { stripped (call_of self.new) ≡ stripped (call_of self.old) }
+        ensures system { hull.new.system ≡ hull.old.system }
+    {
+        match self {
+            Call::Add(mark) => hull.add(*mark).map(Reply::Added),
+            Call::Drop(mark) => hull.drop(*mark).map(Reply::Dropped),
+            Call::Ask(question) => question.put_to(hull),
+        }
+    }
+
+    // The same call, with a copy of its list.
+    fn copied(&self, heap: Global) -> Result<Call, AllocError>
+        ensures copied { IfOk result (λ c. call_of c ≡ call_of self.now) }
+    {
+        Ok(match self {
+            Call::Add(mark) => Call::Add(*mark),
+            Call::Drop(mark) => Call::Drop(*mark),
+            Call::Ask(question) => Call::Ask(question.copied(heap)?),
+        })
+    }
+
+    // The list that goes with it; an empty one where none does.
+    fn into_list(self, heap: Global) -> Vec<usize>
+        ensures list { result.items ≡ list_of (call_of self) }
+    {
+        match self {
+            Call::Add(_) | Call::Drop(_) => Vec::new(heap),
+            Call::Ask(question) => question.into_list(heap),
+        }
+    }
+}
+
+// Makes the calls on an unused hull over the system, one after the other, each in its place.
+fn make_all<S: CcSystem + Drop>(system: S, steps: &mut [Step]) -> DynamicHull<S>
+    ensures ran { Ran (S.CcSystem.meaning system) (stepped steps.old steps.new) (held result.state.records) }
+    ensures same { same_calls steps.old steps.new }
+    ensures system { result.system ≡ system }
+{
+    let mut hull = DynamicHull::over(system);
+    for step in steps.iter_mut() {
+        step.reply = step.call.make_on(&mut hull);
+    }
+    hull
+}
+
+// Runs a history of calls on an unused hull over the first system, and another on one over the second, and then puts a question to each; every
+// reply and every list is written in its place, so that nothing is copied, and nothing can be wanting. Its contract is the theorem over whole
+// runs.
+pub fn compare_in_place<S: CcSystem + Drop, T: CcSystem + Drop>(
+    first: S,
+    first_steps: &mut [Step],
+    first_question: &mut Question,
+    second: T,
+    second_steps: &mut [Step],
+    second_question: &mut Question,
+) -> (Result<Reply, Fault>, Result<Reply, Fault>)
+    ensures whole { Whole (S.CcSystem.meaning first) (stepped first_steps.old first_steps.new) (T.CcSystem.meaning second) (stepped second_steps.old second_steps.new) }
+    ensures first { LastAnswer (S.CcSystem.meaning first) (stepped first_steps.old first_steps.new) (question_of first_question.old) (told result.0 (list_of (question_of first_question.new))) }
+    ensures second { LastAnswer (T.CcSystem.meaning second) (stepped second_steps.old second_steps.new) (question_of second_question.old) (told result.1 (list_of (question_of second_question.new))) }
+    ensures compared { question_of first_question.old ≡ question_of second_question.old → Compared (S.CcSystem.meaning first) (stepped first_steps.old first_steps.new) (T.CcSystem.meaning second) (stepped second_steps.old second_steps.new) (question_of first_question.old) (told result.0 (list_of (question_of first_question.new))) (told result.1 (list_of (question_of second_question.new))) }
+    ensures same_calls { same_calls first_steps.old first_steps.new × same_calls second_steps.old second_steps.new }
+    ensures same_questions { (stripped (question_of first_question.new) ≡ stripped (question_of first_question.old)) × (stripped (question_of second_question.new) ≡ stripped (question_of second_question.old)) }
+{
+    let one = make_all(first, first_steps);
+    let other = make_all(second, second_steps);
+    (first_question.put_to(&one), second_question.put_to(&other))
+}
+
 // Puts a question to a hull, with a copy of the list that goes with it.
-// Stays apart from the shell's `make`, with `carry_out`: lists are on the heap here and of any length, and a copy of one may fail.
 fn ask<S: CcSystem>(
     heap: Global,
     hull: &DynamicHull<S>,
@@ -72,24 +184,12 @@ fn ask<S: CcSystem>(
     ensures answer { IfOk result (λ a. Answers (S.CcSystem.meaning hull.now.system) (held hull.now.state.records) (question_of question.now) (answer_of a)) }
     ensures bare { IfOk result Bare }
 {
-    match question {
-        Question::Place(mark) => Ok(unlisted(heap, hull.place(*mark).map(Reply::Placed))),
-        Question::Neighbours(mark) => {
-            let beside = hull.neighbours(*mark);
-            let reply = beside.map(|(before, after)| Reply::Beside(before, after));
-            Ok(unlisted(heap, reply))
-        }
-        Question::Outline(list) => {
-            let mut list = Vec::from_slice(heap, list)?;
-            let reply = hull.outline(&mut list).map(Reply::Wrote);
-            Ok(Answer { reply, list })
-        }
-        Question::Rounds(list) => {
-            let mut list = Vec::from_slice(heap, list)?;
-            let reply = hull.rounds(&mut list).map(Reply::Wrote);
-            Ok(Answer { reply, list })
-        }
-    }
+    let mut question = question.copied(heap)?;
+    let reply = question.put_to(hull);
+    Ok(Answer {
+        reply,
+        list: question.into_list(heap),
+    })
 }
 
 // Makes a call, with a copy of the list that goes with it.
@@ -102,11 +202,12 @@ fn carry_out<S: CcSystem>(
     ensures bare { IfOk result Bare }
     ensures system { hull.new.system ≡ hull.old.system }
 {
-    match call {
-        Call::Add(mark) => Ok(unlisted(heap, hull.add(*mark).map(Reply::Added))),
-        Call::Drop(mark) => Ok(unlisted(heap, hull.drop(*mark).map(Reply::Dropped))),
-        Call::Ask(question) => ask(heap, hull, question),
-    }
+    let mut call = call.copied(heap)?;
+    let reply = call.make_on(hull);
+    Ok(Answer {
+        reply,
+        list: call.into_list(heap),
+    })
 }
 
 // Makes the calls on an unused hull over the system, one after the other, and records each answer.

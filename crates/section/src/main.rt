@@ -9,7 +9,7 @@ use cc::CcSystem;
 use cc::checks::Checked;
 use cc::mirrors::Mirror;
 use cc::renamings::Renaming;
-use hull::histories::{Call, Question, compare};
+use hull::histories::{Call, Question, Reply, Step, compare, compare_in_place};
 use models::places::Place;
 use showing::{show_answer, show_turns, show_verdict};
 use std::alloc::{AllocError, Global};
@@ -93,17 +93,57 @@ fn show_histories(rt: &HostRuntime) -> anyhow::Result<()> {
     let question = Question::Outline(vec![in heap; 0; 5]?);
     let both = compare(heap, points, &first, turned, &second, &question)?;
     for answer in &both.first {
-        show_answer(rt, "first", answer)?;
+        show_answer(rt, "first", answer.reply, &answer.list)?;
     }
     for answer in &both.second {
-        show_answer(rt, "second", answer)?;
+        show_answer(rt, "second", answer.reply, &answer.list)?;
     }
-    show_answer(rt, "first at last", &both.first_answer)?;
-    show_answer(rt, "second at last", &both.second_answer)
+    let (one, other) = (&both.first_answer, &both.second_answer);
+    show_answer(rt, "first at last", one.reply, &one.list)?;
+    show_answer(rt, "second at last", other.reply, &other.list)
+}
+
+// The calls as steps that are yet to be made.
+fn steps(heap: Global, calls: Vec<Call>) -> Result<Vec<Step>, AllocError> {
+    let mut steps = Vec::new(heap);
+    for call in calls {
+        steps.push(Step {
+            call,
+            reply: Ok(Reply::Dropped(0)),
+        })?;
+    }
+    Ok(steps)
+}
+
+// Two histories made in place: the section's, and one of its mirror in which another mark is dropped and asked for; and at last the place of
+// mark 0 in each.
+fn show_in_place(rt: &HostRuntime) -> anyhow::Result<()> {
+    let heap = rt.alloc();
+    let mut first = steps(heap, history(heap, 2, 0)?)?;
+    let mut second = steps(heap, history(heap, 3, 1)?)?;
+    let (mut one, mut other) = (Question::Place(0), Question::Place(0));
+    let points = Points::open(&SECTION);
+    let mirror = Mirror::over(Points::open(&SECTION));
+    let last = compare_in_place(
+        points,
+        &mut first,
+        &mut one,
+        mirror,
+        &mut second,
+        &mut other,
+    );
+    for step in &second {
+        if let Call::Ask(Question::Outline(list)) = &step.call {
+            show_answer(rt, "in place", step.reply, list)?;
+        }
+    }
+    show_answer(rt, "in place", last.0, &[])?;
+    show_answer(rt, "in place", last.1, &[])
 }
 
 fn main(rt: HostRuntime) -> anyhow::Result<()> {
     show_systems(&rt)?;
     show_histories(&rt)?;
+    show_in_place(&rt)?;
     show_limits(&rt)
 }

@@ -2,7 +2,7 @@
 
 use cc::CcSystem;
 use cc::faults::Fault;
-use hull::histories::{Answer, Reply};
+use hull::histories::Reply;
 
 // The count of a system, and the turn of each three of its marks.
 pub fn show_turns<S: CcSystem>(rt: &HostRuntime, name: &str, system: &S) -> anyhow::Result<()> {
@@ -58,9 +58,13 @@ fn word(reply: Reply) -> &'static str {
 }
 
 // One answer of a history, with the list that goes with it.
-pub fn show_answer(rt: &HostRuntime, name: &str, answer: &Answer) -> anyhow::Result<()> {
-    let list = &answer.list;
-    match answer.reply {
+pub fn show_answer(
+    rt: &HostRuntime,
+    name: &str,
+    reply: Result<Reply, Fault>,
+    list: &[usize],
+) -> anyhow::Result<()> {
+    match reply {
         Ok(reply) => {
             let word = word(reply);
             print!(rt; "{name}\t{word}\t{reply}")?;
