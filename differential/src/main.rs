@@ -59,7 +59,7 @@ struct Histories {
 }
 
 /// Histories as scripts of the console: over points, networks and tables, under layers.
-/// `given` makes of the words what reaches the console: the program drops empty words that stand before all others.
+/// `given` makes of the words those that are put to both: the program is run without empty words before all others.
 fn compare_histories(histories: u64, seed: u64, given: impl Fn(&str) -> &str, console: impl Fn(&[u8], &str, &[u8], usize) -> Vec<u8>) {
     let mut seen = Histories::default();
     for case in seed..seed + histories {
