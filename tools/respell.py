@@ -1,5 +1,6 @@
 #!/usr/bin/env python3
-"""Brings the repository's own names in specs/ and proofs/ to the spelling of today's library, once, after port.py:
+"""Brings the repository's own names in specs/ and proofs/ from the spelling of rattle-kit-8b to that of rattle-kit-13f. It was run once,
+after the kit's port.py (docs/PORT.md):
 words, lemmas, fields and constructors in snake case (`ring-of` becomes `ring_of`), facts and types in camel case
 (`Ring-of` becomes `RingOf`), files of specs/ and proofs/ in camel case (`Good_lists` becomes `GoodLists`).
 Names that Rattle makes (goals, steps, invariants), names of src/ and names of the library stay.

@@ -152,7 +152,7 @@ pub fn sheet(random: &mut Random) -> Vec<u8> {
     })
 }
 
-/// The same with some bytes changed, left out, put in or doubled.
+/// A sheet with some bytes changed, left out or put in, cut off, or with a line doubled or left out. Now and then it is still a sheet.
 pub fn damaged(random: &mut Random) -> Vec<u8> {
     let mut text = sheet(random);
     if random.one_in(200) {
@@ -186,8 +186,8 @@ pub fn damaged(random: &mut Random) -> Vec<u8> {
     text
 }
 
-/// The words of at most two layers, for a system of so many marks; and the count of the whole pile.
-/// Now and then a word names nothing.
+/// The words of at most two layers, for a system of so many marks, and the count of the whole pile. Now and then there is a word more,
+/// which names nothing.
 pub fn words(random: &mut Random, mut count: usize) -> (String, usize) {
     let mut all = Vec::new();
     for _ in 0..random.below(3) {
@@ -219,7 +219,7 @@ pub fn words(random: &mut Random, mut count: usize) -> (String, usize) {
     (all.join(" "), count)
 }
 
-/// Calls as pairs of bytes, a letter and a number, over so many marks; some are none.
+/// Calls as pairs of bytes, a letter and a number, over so many marks; some letters are those of no call.
 pub fn calls(random: &mut Random, count: usize, many: usize) -> Vec<u8> {
     let mut calls = Vec::new();
     for _ in 0..many {
@@ -237,7 +237,7 @@ pub fn calls(random: &mut Random, count: usize, many: usize) -> Vec<u8> {
     calls
 }
 
-/// A script of calls over so many marks, with declined calls and lines that are none.
+/// A script of calls over so many marks, with refused calls and lines that are no call.
 pub fn script(random: &mut Random, count: usize, calls: usize) -> String {
     let mut text = String::new();
     let adds = 2 + random.below(6);

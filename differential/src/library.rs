@@ -1,5 +1,6 @@
 //! The proved library as it is linked: what crates/frame exports, behind safe functions.
-//! Each text is handed over in bytes of the caller's; that those past the text stay, and all of them where it is too long, is looked at in every call.
+//! Each text is handed over in bytes of the caller's. At every call it is looked at that the bytes past the text have not changed, or none
+//! of the bytes where the text is too long for them.
 
 extern "C" {
     fn moarduft_report(text: *const u8, text_length: usize, out: *mut u8, out_length: usize) -> usize;
@@ -22,7 +23,7 @@ const BEFORE: u8 = 0xAA;
 /// The answer where memory is wanting.
 const NO_MEMORY: usize = usize::MAX;
 
-/// The text that a call hands over; `room` is how many bytes it is given at first.
+/// The text that a call hands over; `room` is how many bytes it is given at first. Where they are too few, it is called again with enough.
 fn handed(room: usize, call: impl Fn(&mut [u8]) -> usize) -> Vec<u8> {
     let mut out = vec![BEFORE; room];
     let mut length = call(&mut out);

@@ -1,4 +1,5 @@
-//! Compares the proved library, linked as a static library, with a plain implementation, answer by answer, and measures what calls cost:
+//! Compares the proved library, linked as a static library, with a plain implementation, answer by answer, and measures what calls cost
+//! (docs/DIFFERENTIAL.md):
 //!
 //!     differential compare SHEETS HISTORIES [SEED]
 //!     differential programs SHEETS HISTORIES [SEED]      the same through the programs `report` and `console`
@@ -58,7 +59,7 @@ struct Histories {
 }
 
 /// Histories as scripts of the console: over points, networks and tables, under layers.
-/// `given` is what arrives of the words.
+/// `given` makes of the words those that are put to both: the program is run without empty words before all others.
 fn compare_histories(histories: u64, seed: u64, given: impl Fn(&str) -> &str, console: impl Fn(&[u8], &str, &[u8], usize) -> Vec<u8>) {
     let mut seen = Histories::default();
     for case in seed..seed + histories {
@@ -87,7 +88,7 @@ fn compare_histories(histories: u64, seed: u64, given: impl Fn(&str) -> &str, co
     println!("under no layer {}, one {}, two {}", seen.layers[0], seen.layers[1], seen.layers[2]);
 }
 
-/// Histories as bytes, by what their answers are worth.
+/// Histories as pairs of bytes, by what their answers are worth.
 fn compare_tallies(histories: u64, seed: u64) {
     let mut calls_made = 0;
     for case in seed..seed + histories {

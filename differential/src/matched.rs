@@ -1,4 +1,4 @@
-//! The hull by the steps that the proved code takes, in ordinary Rust: what the proofs cost shows against this one.
+//! The hull by the steps that the proved code takes, in ordinary Rust, to see what it costs that the code is written so as to be proved.
 //! An add asks each arc of the old ring once; place bisects the fan; drop and rounds find outlines by adding mark after mark.
 
 use crate::plain::{det, no, Answer, Placed};
@@ -50,6 +50,7 @@ impl<'a> Matched<'a> {
         det(self.places[p], self.places[q], self.places[x]) < 0
     }
 
+    /// The ring around the marks of this one and x.
     fn grown(&self, ring: &Ring, x: usize) -> Ring {
         let mut new = Ring::new();
         let marks = ring.marks();

@@ -13,7 +13,7 @@ const COUNTS: [usize; 3] = [16, 64, 128];
 /// The time of a run is the least of so many.
 const RUNS: usize = 5;
 
-/// Seconds of one turn of the work, which is done again and again until a run takes long enough to be measured.
+/// Seconds that the work takes once. A run does it so often that the run is long enough to be measured; the least of several runs counts.
 fn seconds(mut work: impl FnMut()) -> f64 {
     let mut turns = 1;
     loop {
@@ -50,7 +50,7 @@ struct Kind {
 
 fn kinds(count: usize) -> Vec<Kind> {
     let adds = on_each(b'a', count);
-    // short calls are made often, so that they weigh more than the adds before them
+    // places, outlines and rounds are asked for many times, so that they weigh more than the adds before them
     vec![
         Kind { name: "add", before: vec![], measured: adds.clone() },
         Kind { name: "drop", before: adds.clone(), measured: on_each(b'd', count) },
@@ -67,7 +67,7 @@ fn of_call(kind: &Kind, mut run: impl FnMut(&[u8])) -> f64 {
     (whole - before).max(0.0) / (kind.measured.len() / 2) as f64
 }
 
-/// Seconds of one run of the calls in the library: many times over one opening, less the opening.
+/// Seconds that the library takes to make the calls once: they are made many times over one opening, and the opening is taken off.
 fn library_run(text: &[u8], calls: &[u8]) -> f64 {
     let mut times = 1;
     loop {
@@ -89,12 +89,13 @@ fn library_run(text: &[u8], calls: &[u8]) -> f64 {
     (least(times) - least(0)).max(0.0) / times as f64
 }
 
+/// The same as `of_call`, of the library.
 fn library_call(text: &[u8], kind: &Kind) -> f64 {
     let all = [&kind.before[..], &kind.measured[..]].concat();
     (library_run(text, &all) - library_run(text, &kind.before)).max(0.0) / (kind.measured.len() / 2) as f64
 }
 
-/// The same worth from all three, so that the same work is measured.
+/// Stops unless the answers are worth the same in all three, so that the same work is measured.
 fn agree(text: &[u8], calls: &[u8], plain: &mut impl Calls, matched: &mut impl Calls) {
     let worth = library::tally(text, calls, 1);
     assert!(worth == tally(plain, calls) && worth == tally(matched, calls), "the tallies differ");

@@ -1,4 +1,5 @@
-//! A plain implementation of the whole library, straight from docs/CALLS.md and docs/SHEETS.md: no cleverness, nothing shared with the proved text.
+//! A plain implementation of systems, layers, sheets, the hull, star and tape, straight from docs/CALLS.md and docs/SHEETS.md: nothing
+//! clever, and nothing shared with the proved text.
 
 /// A refusal: its number and its used places.
 #[derive(Clone, Debug, PartialEq, Eq)]
@@ -45,6 +46,7 @@ pub fn triples(n: usize) -> Vec<[usize; 3]> {
     all
 }
 
+/// The sheet that a text is.
 pub fn read(text: &[u8]) -> Answer<Sheet> {
     if text.len() > 32_768 {
         return no(2, &[0]);
@@ -167,6 +169,7 @@ impl System {
     }
 }
 
+/// Twice the signed area of the triangle p q r, above 0 where they turn left.
 pub fn det(p: (i64, i64), q: (i64, i64), r: (i64, i64)) -> i64 {
     (q.0 - p.0) * (r.1 - p.1) - (q.1 - p.1) * (r.0 - p.0)
 }
@@ -189,6 +192,7 @@ fn by_rising(p: usize, q: usize, r: usize, rising: impl Fn(usize, usize, usize) 
     rising(marks[0], marks[1], marks[2]) == (exchanges % 2 == 0)
 }
 
+/// All orders of the marks.
 fn orders(marks: &[usize]) -> Vec<Vec<usize>> {
     if marks.is_empty() {
         return vec![vec![]];
@@ -205,6 +209,7 @@ fn orders(marks: &[usize]) -> Vec<Vec<usize>> {
     all
 }
 
+/// All groups of so many marks below n, each rising, in rising order.
 fn groups(n: usize, size: usize) -> Vec<Vec<usize>> {
     fn from(first: usize, n: usize, size: usize, group: &mut Vec<usize>, all: &mut Vec<Vec<usize>>) {
         if size == 0 {
@@ -222,6 +227,7 @@ fn groups(n: usize, size: usize) -> Vec<Vec<usize>> {
     all
 }
 
+/// The system that a sheet tells of.
 pub fn open(sheet: &Sheet) -> Answer<System> {
     match sheet {
         Sheet::Places(places) => {
@@ -451,6 +457,7 @@ pub fn star(places: &[(i64, i64)], c: usize) -> Answer<Vec<(usize, usize)>> {
     Ok(pairs)
 }
 
+/// The greatest whole number whose square is at most this one.
 fn root(square: i64) -> i64 {
     let mut root = (square as f64).sqrt() as i64;
     while root * root > square {
@@ -462,6 +469,7 @@ fn root(square: i64) -> i64 {
     root
 }
 
+/// The length of a tape around a ring.
 pub fn tape(places: &[(i64, i64)], ring: &[usize]) -> i64 {
     (0..ring.len())
         .map(|at| {

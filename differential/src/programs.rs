@@ -26,7 +26,7 @@ pub fn report(text: &[u8]) -> Vec<u8> {
     printed("report", &[], text)
 }
 
-/// The words are given as arguments, one each. An empty argument before all others adds nothing to them.
+/// What `console` prints. The words are given as arguments, one each, since the program joins its arguments by spaces.
 pub fn console(text: &[u8], words: &str, script: &[u8]) -> Vec<u8> {
     let file = std::env::temp_dir().join(format!("differential-{}.sheet", std::process::id()));
     std::fs::write(&file, text).expect("the sheet is written");

@@ -1,8 +1,8 @@
-//! What calls are worth: the sums that are compared, and timed, without any text.
+//! What the answers to calls are worth, added up: compared, and timed, without any text.
 
 use crate::plain::{Answer, Hull, Placed};
 
-/// The calls on a hull, whoever keeps it; `outline` and `rounds` write into the caller's list.
+/// The calls on a hull, of the plain implementation or of the matched one; `outline` and `rounds` write into the caller's list.
 pub trait Calls {
     fn add(&mut self, mark: usize) -> Answer<(bool, usize)>;
     fn drop(&mut self, mark: usize) -> Answer<usize>;

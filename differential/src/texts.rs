@@ -18,6 +18,7 @@ fn refusal(Refusal(number, places): &Refusal) -> Vec<String> {
     fields
 }
 
+/// The report of a text.
 pub fn report(text: &[u8]) -> String {
     told(text).unwrap_or_else(|fault| line(&refusal(&fault)))
 }
