@@ -43,8 +43,8 @@ pub enum Reply {
 }
 
 // A reply, or why the call was declined; and what the caller's list holds after the call, which is empty where none was handed over.
-// That the list is empty where no call wrote into it stays a clause of each function that makes an answer: as a fact in the struct it would be
-// asked of whoever builds one.
+// That it is empty then stays a clause of each function that makes an answer (`Bare`): as a fact in the struct it would be asked of whoever
+// builds one.
 #[derive(Drop)]
 pub struct Answer {
     pub reply: Result<Reply, Fault>,
@@ -63,7 +63,8 @@ fn unlisted(heap: Global, reply: Result<Reply, Fault>) -> Answer
 }
 
 // Puts a question to a hull, with a copy of the list that goes with it.
-// Stays apart from the shell's `make`, with `carry_out`: lists are on the heap here and of any length, and a copy of one may fail.
+// It and `carry_out` stay apart from `calls::make` of the shell, which makes the same calls: here lists are on the heap and of any length,
+// and a copy of one may fail.
 fn ask<S: CcSystem>(
     heap: Global,
     hull: &DynamicHull<S>,
