@@ -100,7 +100,7 @@ module _ {m : Meaning} (L : Lawful m) (s u u' : ℕ → Bool) (entries₀ entrie
         rest = λ p h. (off p (λ o. let i = on_small p o in omega arith)).0 ∙ g.rest p h;
       }
 
--- two lists of one length with the same entries from n on
+-- two lists of the same length with the same entries from n on
 pub drop_same : (n : ℕ) (k l : List ℕ) → length k ≡ length l → ((p : ℕ) → n ≤ p → get_or k p 0 ≡ get_or l p 0) → drop n k ≡ drop n l
 drop_same n k l e f =
     ext_get_or 0 (drop n k) (drop n l) (length-drop n k ∙ ap (λ i. i - n) e ∙ sym (length-drop n l))

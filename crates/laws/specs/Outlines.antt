@@ -12,7 +12,7 @@ Marks m s = (p : ℕ) → s p → p < m.count
 abbrev pub adding : (ℕ → Type 0) → ℕ → ℕ → Type 0
 adding s x p = s p ⊎ (p ≡ x)
 
--- from p to q is an arc of s: they are two different marks of s, and p, q and every other mark of s turn left
+-- from p to q is an arc of s: p and q are two different marks of s, and p, q, r turn left for every other mark r of s
 pub record Arc (m : Meaning) (s : ℕ → Type 0) (p q : ℕ) : Type 0 where
   pub from : s p
   pub to : s q
@@ -55,7 +55,7 @@ ReadOut (a ∷ l) = AllByRecursion (λ b. a ≤ b) l
 abbrev pub Turned : List ℕ → List ℕ → Type 0
 Turned k l = (a b : List ℕ) × (k ≡ a ++ b) × (l ≡ b ++ a)
 
--- x sees the arc from p to q if p, x, q turn left; from a mark that does not, the arc is hidden.
+-- x sees the arc from p to q if p, x, q turn left; if p, q, x turn left, the arc is hidden from x.
 -- x takes the place of the marks strictly inside the run of arcs that it sees: started at some mark, the ring is `first`, `rest`, `last`,
 -- `gone`, and x sees just the arcs from `last` through `gone` to `first`
 pub record Grown (m : Meaning) (s : ℕ → Type 0) (ring : List ℕ) (x : ℕ) : Type 0 where

@@ -16,7 +16,7 @@ Rising (x ∷ xs) = ((z : ℕ) → Mem z xs → x < z) × Rising xs
 abbrev pub Below : ℕ → List ℕ → Type 0
 Below n xs = (z : ℕ) → Mem z xs → z < n
 
--- of two lists of one length, one comes before the other: the first entries decide, or the rest where these are the same
+-- of two lists of the same length, one comes before the other: the first entries decide, or the rest where these are the same
 abbrev pub Before : List ℕ → List ℕ → Type 0
 Before [] ys = ⊥
 Before (x ∷ xs) [] = ⊥

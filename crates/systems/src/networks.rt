@@ -150,7 +150,8 @@ impl<'a> CcSystem for ReflectionNetwork<'a> {
     }
 }
 
-// The theory of the opener: its contract leaves one answer only, and what it says of three lists of crossings of three wires.
+// The theory of opened networks: the contract of the opener leaves one answer only; and what it says of three lists of crossings of three
+// wires, as examples.
 pub fn networks_stand()
     ensures one { OneJudgement }
     ensures examples { ThreeWires }
