@@ -1,4 +1,4 @@
--- Renamings: what a judgement of the list says of the system, and what the system tells.
+-- Renamings: what the judgement of a list says of the system that the renaming is, and what that system tells of three marks.
 use Rattle.std.proofs.Common.{◌≡◌, ℕ, get_or, subst, ◌<◌, ◌≤◌, T, List, [], length, Some, None, Option, sym, refl, inl, inr, arith}
 use mathlib.Core.Logic.Iff
 use Rattle.std.proofs.lemmas.List.{get_or_read_under}
@@ -45,17 +45,17 @@ module _ (m : Meaning) (xs : List ℕ) where
   renamed_told p q r hp hq hr (Some to-left) h = renamed_left m xs hp hq hr h
   renamed_told p q r hp hq hr (Some to-right) h = renamed_right m xs hp hq hr h
 
--- v is the mark that p names
+-- v is the entry at p, which is the mark that p means
 pub record Means (xs : List ℕ) (p v : ℕ) : Type 0 where
   pub within : p < length xs
   pub is : named xs p ≡ v
 
--- what was read of a slice of the names
+-- an entry that is read from a slice of the list is the mark that its place means
 pub meant : (xs ys : List ℕ) (p v : ℕ) → ys ≡ xs → p < length ys → v ≡ get_or ys p v → Means xs p v
 meant xs ys p v e h f =
     subst (λ l. Means l p v) e (record { within = h; is = sym (get_or_read_under ys p (length ys) v 0 f h refl) })
 
--- what the system below tells of the marks that three names mean
+-- what the system below tells of the entries, the renaming tells of their places
 pub told_below : (m : Meaning) (xs : List ℕ) → length xs ≤ 128 → T (different m.count xs) → {p q r u v w : ℕ} → Means xs p u → Means xs q v → Means xs r w
     → (o : Option Turn) → Told m u v w o → Told (renamed m xs) p q r o
 told_below m xs short apart {p} {q} {r} {u} {v} {w} hp hq hr o h =

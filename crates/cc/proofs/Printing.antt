@@ -7,7 +7,7 @@ pub tabbed_append : (xs ys : List ℕ) → tabbed (xs ++ ys) ≡ tabbed xs ++ ta
 tabbed_append [] ys = refl
 tabbed_append (x ∷ xs) ys = ap (λ l. 9 ∷ l) (ap (λ l. decimal x ++ l) (tabbed_append xs ys) ∙ sym (append_assoc (decimal x) (tabbed xs) (tabbed ys)))
 
--- one number more
+-- the text of the first i + 1 numbers is that of the first i, a tab, and the next one
 pub tabbed_more : (xs : List ℕ) (i : ℕ) → i < length xs → tabbed (take i xs) ++ 9 ∷ decimal (get_or xs i 0) ≡ tabbed (take (i + 1) xs)
 tabbed_more xs i h =
     ap (λ l. tabbed (take i xs) ++ 9 ∷ l) (sym (append-nil (decimal (get_or xs i 0))))

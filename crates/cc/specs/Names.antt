@@ -5,15 +5,15 @@ use Rattle.laws.specs.Layers.{named}
 use Rattle.cc.specs.declared.faults.Fault.{Fault}
 use Rattle.cc.specs.declared.faults.Fault.TheVariants.{Misnamed}
 
--- an earlier entry is the same
+-- the entry at i is the same as an earlier one
 abbrev pub Repeats : List ℕ → ℕ → Type 0
 Repeats xs i = (j : ℕ) × (j < i) × (named xs j ≡ named xs i)
 
--- the entry is none of the n marks of the system below, or an earlier one is the same
+-- the entry at i is none of the n marks of the system below, or the same as an earlier one
 abbrev pub Bad : ℕ → List ℕ → ℕ → Type 0
 Bad n xs i = (n ≤ named xs i) ⊎ Repeats xs i
 
--- the length is looked at first; then the first bad entry is named
+-- the fault of a renaming, none where it is accepted: the length is looked at first, and then the first bad entry is named
 pub data Judged (n : ℕ) (xs : List ℕ) : Option Fault → Type 0 where
   too_long : 128 < length xs → Judged n xs (Some (Misnamed 128))
   bad : {i : ℕ} → length xs ≤ 128 → First (length xs) (Bad n xs) i → Judged n xs (Some (Misnamed i))

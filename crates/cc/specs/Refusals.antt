@@ -3,6 +3,7 @@ use Rattle.std.specs.Prelude.{ℕ, ◌-◌, List, [], ◌∷◌, ◌++◌, lengt
 use Rattle.cc.specs.declared.faults.Fault.{Fault}
 use Rattle.cc.specs.declared.faults.Fault.TheVariants.{Torn, Outsize, Miscounted, Twin, Straight, Circled, Recrossed, LawlessFour, LawlessFive, Stranger, AlreadyIn, Absent, Misnamed, Tight, OffTheEdge}
 
+-- the number of a fault; the two faults of a lawless table share one
 abbrev pub number : Fault → ℕ
 number (Torn _) = 1
 number (Outsize _) = 2
@@ -38,6 +39,6 @@ places (Misnamed entry) = entry ∷ []
 places (Tight needed) = needed ∷ []
 places (OffTheEdge p) = p ∷ []
 
--- five places, unused ones 0
+-- the five places of a fault, those that it does not use 0
 abbrev pub five_places : Fault → List ℕ
 five_places f = places f ++ replicate (5 - length (places f)) 0

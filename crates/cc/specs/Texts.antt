@@ -11,19 +11,19 @@ abbrev pub tabbed : List ℕ → List ℕ
 tabbed [] = []
 tabbed (n ∷ ns) = 9 ∷ (decimal n ++ tabbed ns)
 
--- a refusal: no, its number, and the places that it uses
+-- a refusal: the word `no`, its number, and the places that it uses
 abbrev pub refused : Fault → List ℕ
 refused f = codes "no" ++ tabbed (number f ∷ places f)
 
--- L and R
+-- the letter of a turn: L or R
 abbrev pub side : Turn → ℕ
 side Left = 76
 side Right = 82
 
--- the turn that the letter tells; none tells it otherwise
+-- the turn that has this letter; or else no turn has it, and the error holds it
 abbrev pub Sided : ℕ → Result Turn UnknownLetter → Type 0
 Sided letter r = MatchResult r (λ turn. letter ≡ side turn) (λ error. ((turn : Turn) → letter ≢ side turn) × (error.0 ≡ letter))
 
--- what is printed for a letter that says nothing
+-- what is printed for a letter that stands for nothing
 abbrev pub unknown : ℕ → List ℕ
 unknown letter = codes "unknown letter " ++ decimal letter

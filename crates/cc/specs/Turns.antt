@@ -10,6 +10,7 @@ Told m p q r None = Three m.count p q r → ⊥
 Told m p q r (Some to-left) = Left m p q r
 Told m p q r (Some to-right) = Right m p q r
 
+-- right for left, and left for right
 abbrev pub other_way : Turn → Turn
 other_way to-left = to-right
 other_way to-right = to-left

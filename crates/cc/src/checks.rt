@@ -1,18 +1,19 @@
-//! What is opened by a check of the caller's list, and tells why it is refused.
+//! Systems and layers that are opened by a check of the caller's list, and tell why they are refused.
 
 ghost use Rattle.std.specs.Prelude.{◌≡◌, Some, None, Ok, Err, Option, MatchResult};
 ghost use Rattle.cc.specs.declared.faults.Fault.{Fault};
 
 use super::faults::{Fault, accepted};
 
-// What is opened by a check that may refuse it, and then tells its fault.
+// A system or a layer that is opened by a check: it is accepted, or else refused for a fault that it tells.
 pub trait Checked: Sized {
     // why it is refused; none where it is accepted
     ghost refusal: { Self → Option Fault };
 
     // Why it is refused; none where it is accepted.
-    // stays an `Option`, in each of the five types that it tells of, as their field, and where `faults::accepted` takes it; and their openers
-    // answer the type itself: opening cannot fail, what is refused is a system of no mark, and whoever wants a `Result` asks for `checked`
+    // It stays an `Option`, here, as a field of each of the five types that have this trait, and as what `faults::accepted` takes; and the
+    // openers of the five answer the type itself and no `Result`: opening cannot fail, since what is refused is a system of no mark.
+    // Whoever wants a `Result` asks for `checked`.
     fn fault(&self) -> Option<Fault>
         ensures told { result ≡ refusal self.now };
 

@@ -6,9 +6,10 @@ ghost use Rattle.cc.specs.Refusals.{number, places, five_places};
 // The refusals, in the order of their numbers; the two cases of a table that breaks a law share one number.
 #[derive(Clone, Copy, PartialEq, Eq, Debug)]
 pub enum Fault {
-    // a line that has not its form, by the line's number
+    // a line that has not its form: the line's number
     Torn(usize),
-    // beyond a limit: by the line or the entry, or by the limit itself for a count or a length
+    // something beyond its limit: in a text the line of the value, or 0 where the text is too long; elsewhere the entry, or the limit
+    // itself for a count or a length
     Outsize(usize),
     // a line or an entry too many or too few: the first surplus line, one past the last line, or the list's length
     Miscounted(usize),
@@ -18,7 +19,7 @@ pub enum Fault {
     Straight(usize, usize, usize),
     // three points on one circle with the star's centre
     Circled(usize, usize, usize),
-    // a crossing that swaps two wires back, by its entry
+    // a crossing that swaps two wires back: its entry
     Recrossed(usize),
     // four marks that break interiority
     LawlessFour(usize, usize, usize, usize),
@@ -30,9 +31,9 @@ pub enum Fault {
     AlreadyIn(usize),
     // a call on a mark that is not in
     Absent(usize),
-    // a renaming's first bad entry, or 128 where it is too long
+    // a renaming that is no list of different marks of the system below: its first bad entry, or 128 where it is too long
     Misnamed(usize),
-    // the length that the caller's list would need
+    // a list of the caller's that is too short: the length that it would need
     Tight(usize),
     // the neighbours of a mark that is in, but not on the outline
     OffTheEdge(usize),
@@ -40,7 +41,7 @@ pub enum Fault {
 
 impl Fault {
     // The number of the refusal, 1 to 14.
-    // stays a number: it is what a device and a sheet's report say, and two cases share one
+    // It stays a number of its own: devices and reports say it, and two cases share one.
     pub fn number(&self) -> usize
         ensures number { result ≡ number self.now }
     {
@@ -63,8 +64,8 @@ impl Fault {
         }
     }
 
-    // Its five places, those that it does not use 0.
-    // stays an array, with `places_used` beside it: five places, those not used 0, are what a refusal is defined as
+    // Its five places; those that it does not use are 0.
+    // It stays an array, with `places_used` beside it: a refusal is defined as a number and five places.
     pub fn places(&self) -> [usize; 5]
         ensures five { result ≡ five_places self.now }
     {
@@ -101,7 +102,7 @@ impl Fault {
     }
 }
 
-// A fault that may be none as a result, for use with `?`.
+// A result whose error is the fault, if there is one; for use with `?`.
 pub fn accepted(fault: Option<Fault>) -> Result<(), Fault>
     ensures told { elim result [ Ok _ ↦ fault ≡ None | Err f ↦ fault ≡ Some f ] }
 {

@@ -1,4 +1,4 @@
-//! CC systems as an interface: what is asked of a system, what it may refuse, and the two layers over any system.
+//! CC systems as an interface: what is asked of a system, why a call may be refused, and the two layers over any system.
 
 #![tactic(auto)]
 
@@ -25,7 +25,7 @@ pub enum Turn {
 
 impl Turn {
     // The other way.
-    // stays a method: by `impl Not` it would be `!turn`, which does not say what is turned
+    // It stays a method: with `impl Not` it would be `!turn`, which does not say what is turned.
     pub fn reversed(self) -> Turn
         ensures reversed { result ≡ other_way self }
     {

@@ -18,7 +18,7 @@ use arrayvec::ArrayVec;
 pub struct Renaming<S: CcSystem> {
     below: S,
     names: ArrayVec<usize, LIMIT>,
-    // stays beside what is held: a `Result` of the names would be taken apart by each method, and by what is known of the names
+    // stays a field beside the names: one `Result` of the two would be taken apart by each method, and by the fact below
     fault: Option<Fault>,
     // the names are different marks of the system below
     ghost apart: { T (different (S.CcSystem.meaning below).count names.items) },
@@ -86,7 +86,7 @@ impl<S: CcSystem> CcSystem for Renaming<S> {
     }
 }
 
-// A list as the names of marks of a system with `count` marks, or why it is none.
+// The list, held as a renaming of a system with `count` marks, or why it is none.
 fn held(count: usize, names: &[usize]) -> Result<ArrayVec<usize, LIMIT>, Fault>
     ensures judged { MatchResult result (λ held. (held.items ≡ names.now) × Judged count names.now None) (λ fault. Judged count names.now (Some fault)) }
 {

@@ -35,7 +35,7 @@ impl fmt::Display for Fault {
     }
 }
 
-// A letter that says nothing.
+// A letter that stands for nothing where it was read.
 #[derive(Clone, Copy, PartialEq, Eq, Debug)]
 pub struct UnknownLetter(pub u8);
 
@@ -61,7 +61,7 @@ impl fmt::Display for Turn {
     }
 }
 
-// The turn that L or R tells.
+// The turn that L or R stands for.
 impl TryFrom<u8> for Turn {
     type Error = UnknownLetter;
 

@@ -35,7 +35,7 @@ is_true b e = subst T (sym e) tt
 is_false : (b : Bool) → b ≡ false → T b → ⊥
 is_false b e h = subst T e h
 
--- mark x was put in, or out, and the marks stayed from then on
+-- mark x was put in, or out, and from then on the marks that are in stayed the same
 module _ (rs mid rs' : List Record) (x : ℕ) (b : Bool) (x_has : x < length rs) (changed : mid ≡ with_held rs x b) (stays : (p : ℕ) → held rs' p ≡ held mid p) where
   held_x : held rs' x ≡ b
   held_x = stays x ∙ ap (λ r. held r x) changed ∙ held_new rs x b x_has
@@ -78,7 +78,7 @@ pub sound_dropped : {m : Meaning} (rs rs' : List Record) (x : ℕ) (old new : Li
 sound_dropped {m} rs rs' x old new sound one ring links =
     record { marks = less_marks m one sound.marks; is_ring = ring; links = links }
 
--- the answers, by what was exchanged
+-- the answers to an add and a drop, by what `Exchanged` says of the two rings
 module _ {m : Meaning} (L : Lawful m) (s t : ℕ → Bool) (x : ℕ) (without with' : List ℕ) (marks : Marks m (of s)) (x_in : x < m.count)
     (one : OneMore s x t) (r : RingOf m s without) (r' : RingOf m t with') where
   pub adds_by : (o : Option ℕ) → Exchanged without with' x o → Answers m s (add x) (added_answer (Ok (added_by o)))

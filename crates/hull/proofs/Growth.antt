@@ -28,7 +28,7 @@ module _ (sees : ℕ → ℕ → Bool) (x : ℕ) where
   abbrev pub whole : List ℕ → List ℕ
   whole l = grown (sees (get_or l (length l - 1) 0) (get_or l 0 0)) l (get_or l 0 0)
 
-  -- one mark more
+  -- the mark after the one at place i, and what the marks from place i on leave, by the first of them
   after_at : (l : List ℕ) (i : ℕ) (z : ℕ) → i < length l → after (drop (suc i) l) z ≡ get_or (drop 1 l ++ z ∷ []) i 0
   after_at [] i z h = absurd (omega arith)
   after_at (a ∷ []) zero z h = refl
@@ -50,7 +50,7 @@ module _ (sees : ℕ → ℕ → Bool) (x : ℕ) where
       ∙ ap (λ s. left_on b s (get_or l i 0) x ++ grown s (drop (suc i) l) z) e'
       ∙ ap (λ k. left_on b seen (get_or l i 0) x ++ grown seen (drop k l) z) (sym (add-one i))
 
-  -- a mark's turn: a stands at place i, and x sees the arc from it or not
+  -- one step of the loop: a stands at place i, `to` and `from` say whether x sees the arcs to it and from it, and what it leaves is put on
   module _ (l : List ℕ) (i a : ℕ) (to from : Bool) (new new' : List ℕ) (h : i < length l) (a_is : a ≡ get_or l i 0) (from_is : from ≡ sees a (get_or (rotated l) i 0))
       (so_far : new ++ grown to (drop i l) (get_or l 0 0) ≡ whole l) where
     turn : new ++ (left_on to from a x ++ grown from (drop (i + 1) l) (get_or l 0 0)) ≡ whole l
@@ -67,7 +67,7 @@ module _ (sees : ℕ → ℕ → Bool) (x : ℕ) where
     pub turn_last : i + 1 ≡ length l → new' ≡ new ++ left_on to from a x → new' ≡ whole l
     turn_last n e = sym (append-nil new') ∙ ap (λ k. new' ++ grown from k (get_or l 0 0)) (sym (drop_of_length-le l {i = i + 1} (omega arith))) ∙ turn_more e
 
-  -- the marks of a list, and then those of another
+  -- what the marks of two lists, one after the other, leave
   grown_append : (b : Bool) (a : ℕ) (k : List ℕ) (c : ℕ) (l : List ℕ) (z : ℕ)
       → grown b (a ∷ k ++ c ∷ l) z ≡ grown b (a ∷ k) c ++ grown (sees (before a k) c) (c ∷ l) z
   grown_append b a [] c l z = ap (λ k. k ++ grown (sees a c) (c ∷ l) z) (sym (append-nil (left_on b (sees a c) a x)))
@@ -212,7 +212,7 @@ module _ {m : Meaning} (L : Lawful m) where
           (λ p k. elim ((by_more one p).1 k) [ inl j ↦ inl (u p j) | inr e ↦ inr e ]))
       go (more h) i = absurd (omega arith)
 
-  -- started at its lowest mark, the ring around is the ring
+  -- an outline around the marks and x, started at its lowest mark, is the new ring
   pub grows_from : (x : ℕ) (old round new : List ℕ) → x < m.count → GoesRound m old x round → Turned round new → ReadOut new → Grows m old x new
   grows_from x old round new x_in g tu low s t marks r one =
       record { outline = outline_turned L (more_marks m one x_in marks) round new tu (g s t marks r one); lowest = low }

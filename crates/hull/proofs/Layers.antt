@@ -100,13 +100,13 @@ module _ {m : Meaning} (L : Lawful m) (s u u' : ℕ → Bool) (entries₀ entrie
         rest = λ p h. (off p (λ o. let i = on_small p o in omega arith)).0 ∙ g.rest p h;
       }
 
--- entries past n that are the same
+-- two lists of the same length with the same entries from n on
 pub drop_same : (n : ℕ) (k l : List ℕ) → length k ≡ length l → ((p : ℕ) → n ≤ p → get_or k p 0 ≡ get_or l p 0) → drop n k ≡ drop n l
 drop_same n k l e f =
     ext_get_or 0 (drop n k) (drop n l) (length-drop n k ∙ ap (λ i. i - n) e ∙ sym (length-drop n l))
     (λ i h. get_or-drop n k i 0 ∙ f (n + i) (omega arith) ∙ sym (get_or-drop n l i 0))
 
--- nothing is left
+-- all outlines are peeled off: what the entries say then
 module _ {m : Meaning} (s u : ℕ → Bool) (entries₀ entries : List ℕ) (k : ℕ) (g : Peeling m s u entries₀ entries k) (room : m.count ≤ length entries₀) where
   all_there : length (take m.count entries) ≡ m.count
   all_there = length-take-le m.count entries (let e = g.same_length in omega arith)
@@ -127,7 +127,7 @@ module _ {m : Meaning} (s u : ℕ → Bool) (entries₀ entries : List ℕ) (k :
   pub none_left : Marks m (of s) → m.count ≤ k → (p : ℕ) → T (u p) → ⊥
   none_left marks h p i = let j = size_in u m.count p (marks p (g.within p i)) i in let f = g.few in omega arith
 
--- an empty ring
+-- if the ring of u is empty, u has no mark
 pub ring_none : {m : Meaning} {u : ℕ → Bool} (ring : List ℕ) → length ring ≡ 0 → RingOf m u ring → (p : ℕ) → T (u p) → ⊥
 ring_none [] e r p h = go r.outline p h
   where

@@ -86,11 +86,11 @@ module _ (rs : List Record) (l : List ℕ) (i p q : ℕ) (long : length rs ≡ 1
             )
       ])
 
--- the same of the marks that are in
+-- linking changes nothing about which marks are in
 pub link_held : (rs rs' : List Record) (p q : ℕ) → length rs ≡ 128 → p < 128 → q < 128 → rs' ≡ with_before (with_after rs p q) q p → (r : ℕ) → held rs' r ≡ held rs r
 link_held rs rs' p q long hp hq e r = ap (λ (k : List Record). held k r) e ∙ tied_held rs p q (omega arith) (omega arith) r
 
--- all links
+-- if each place of the ring is linked with the next, the ring is linked
 pub all_linked : (rs : List Record) (l : List ℕ) → ((k : ℕ) → k < length l → LinkAt rs l k) → Linked rs l
 all_linked rs [] h p q f = absurd f
 all_linked rs (a ∷ l) h p q f =

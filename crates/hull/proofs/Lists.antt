@@ -10,7 +10,7 @@ use Rattle.laws.proofs.Walks.{all_cut}
 use Rattle.runs.proofs.Places.{at_place}
 use Rattle.hull.specs.Rings.{rotated}
 
--- the mark that follows
+-- what stands at a place of the rotated ring: the mark at the next place, or at the last place the first
 pub rotated_next : (l : List ℕ) (i : ℕ) → i + 1 < length l → get_or (rotated l) i 0 ≡ get_or l (i + 1) 0
 rotated_next [] i h = absurd (omega arith)
 rotated_next (a ∷ l) i h = get_or-append l (a ∷ []) 0 i (omega arith) ∙ sym (ap (λ k. get_or (a ∷ l) k 0) (add-one i))
@@ -24,7 +24,7 @@ pub follows_at : (l : List ℕ) (i : ℕ) → i < length l → Follows l (get_or
 follows_at [] i h = absurd (omega arith)
 follows_at (a ∷ l) i h = at_place a l a _ _ (i, h, refl, refl)
 
--- a way along l, a mark after another: k is l as a slice, whose marks behind the first are gone through, and i is how many have been
+-- a loop along the ring l: it goes through the marks behind the first of the slice k, which is l, and has gone through i of them
 module _ (l k : List ℕ) (i : ℕ) (e : k ≡ l) where
   abbrev behind : List ℕ
   behind = take (length k - 1) (drop 1 k)
@@ -49,7 +49,7 @@ module _ (l k : List ℕ) (i : ℕ) (e : k ≡ l) where
         ap (λ b. get_or b 0 0) e ∙ sym (rotated_last l i (omega arith) (omega arith)),
       )
 
--- the list from a place on, and round to it, starts at its lowest mark if that stands there
+-- the list from place p on, and then what stands before p, starts at its lowest mark if that stands at p
 pub read_out_from : (l : List ℕ) (p : ℕ) → (0 < length l → p < length l) → ((i : ℕ) → i < length l → get_or l p 0 ≤ get_or l i 0) → ReadOut (drop p l ++ take p l)
 read_out_from [] zero inside low = tt
 read_out_from [] (suc p) inside low = tt

@@ -64,7 +64,7 @@ ran_more m h s t c a r k =
     moves (declines {c = c} {f = f} {l = l} e) = subst (HasIn (then h c (declined f l))) e (in_same h r.full s r.has (declined f l) c (λ p _. (f, l, refl)) (λ p _. (f, l, refl)))
     moves (asks {c = c} {a = a} q e) = subst (HasIn (then h c a)) e (in_same h r.full s r.has a c (λ p d. absurd (no_add q d)) (λ p d. absurd (no_drop q d)))
 
--- a call that was answered, under another name of it
+-- `Called`, of a call and an answer that are equal to those that the code answered
 pub called_by : (m : Meaning) (s t : ℕ → Bool) (c c' : TheCall) (a a' : TheAnswer) → c' ≡ c → a' ≡ a → Answers m s c a → Moved s t c a → Called m s t c' a'
 called_by m s t c c' a a' e d h k = subst₂ (Called m s t) (sym e) (sym d) (record { answers = h; marks = k })
 

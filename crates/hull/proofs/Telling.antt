@@ -34,7 +34,7 @@ module _ {m : Meaning} {s : ℕ → Bool} where
   pub tight_by : (before : List ℕ) (n : ℕ) → n ≡ m.count → length before < n → Answers m s (rounds before) (declined (Tight n) before)
   tight_by before n e lt = subst (λ k. Answers m s (rounds before) (declined (Tight k) before)) (sym e) (tight_rounds (subst (λ k. length before < k) e lt))
 
--- the error of a `?` is the fault that came: what is answered then where a mark may not be added, or is not in
+-- a call that hands on, by `?`, the fault of `admits` or of `holds`, declines as it is defined
 module _ (m : Meaning) (s : ℕ → Bool) (x : ℕ) {X : Type 0} (answer : Result X Fault → Answer) (declines : (f : Fault) → answer (Err f) ≡ declined f []) where
   declined_by : (c : Call) (r : Result X Fault) (f : Fault) → IsErrAnd r (λ e. e ≡ f) → Answers m s c (declined f []) → Answers m s c (answer r)
   declined_by c (Ok x) f e h = absurd e

@@ -17,12 +17,14 @@ use Rattle.hull.specs.declared.histories.Answer.{Answer}
 use Rattle.hull.specs.declared.histories.Step.{Step}
 use Rattle.hull.specs.Replies.{side_of}
 
+-- a question of the code as a call of `runs`
 abbrev pub question_of : Question → TheCall
 question_of (Place x) = place x
 question_of (Neighbours x) = neighbours x
 question_of (Outline list) = outline (vec_items list)
 question_of (Rounds list) = rounds (vec_items list)
 
+-- a call of the code as a call of `runs`
 abbrev pub call_of : Call → TheCall
 call_of (Add x) = add x
 call_of (Drop x) = drop x
@@ -46,7 +48,7 @@ stripped (neighbours x) = neighbours x
 stripped (outline list) = outline []
 stripped (rounds list) = rounds []
 
--- a reply or a refusal, with what the caller's list holds afterwards
+-- a reply or a refusal, with what the caller's list holds afterwards, as an answer of `runs`
 abbrev pub told : Result Reply Fault → List ℕ → TheAnswer
 told (Ok (Added a)) l = added (side_of a.side) a.left
 told (Ok (Dropped n)) l = dropped n
@@ -56,10 +58,11 @@ told (Ok (Beside a b)) l = beside a b
 told (Ok (Wrote n)) l = wrote n l
 told (Err f) l = declined f l
 
+-- an answer of the code as an answer of `runs`
 abbrev pub answer_of : Answer → TheAnswer
 answer_of a = told a.reply (vec_items a.list)
 
--- the list is empty, but where the call wrote into it or was declined
+-- the list is empty, except where the call wrote into it or was declined
 abbrev pub bare : Result Reply Fault → List ℕ → Type 0
 bare (Ok (Added a)) l = l ≡ []
 bare (Ok (Dropped n)) l = l ≡ []
@@ -68,9 +71,11 @@ bare (Ok (Beside a b)) l = l ≡ []
 bare (Ok (Wrote n)) l = Unit {0}
 bare (Err f) l = Unit {0}
 
+-- the same, of an answer
 abbrev pub Bare : Answer → Type 0
 Bare a = bare a.reply (vec_items a.list)
 
+-- calls and answers of the code as a history of `runs`
 abbrev pub history : List Call → List Answer → History
 history calls answers = record { calls = map call_of calls; answers = map answer_of answers }
 

@@ -11,18 +11,19 @@ use Rattle.hull.specs.Rings.{rotated}
 abbrev pub away : Record
 away = record { is_in = false; before = 0; after = 0 }
 
+-- the record of mark p
 abbrev pub at : List Record → ℕ → Record
 at rs p = slice_index_or rs p away
 
--- the marks that are in
+-- whether mark p is in
 abbrev pub held : List Record → ℕ → Bool
 held rs p = (at rs p).is_in
 
--- the marks that are flagged
+-- whether mark p is flagged
 abbrev pub flagged : List Bool → ℕ → Bool
 flagged flags p = slice_index_or flags p false
 
--- the marks of s below n
+-- whether p is a mark of s below n
 abbrev pub below : (ℕ → Bool) → ℕ → ℕ → Bool
 below s n p = s p && nat_lt p n
 
@@ -36,16 +37,17 @@ pub record Sound (m : Meaning) (rs : List Record) (ring : List ℕ) : Type 0 whe
   pub is_ring : RingOf m (held rs) ring
   pub links : Linked rs ring
 
--- a ring without repeats, of marks that have a record
+-- the ring has no mark twice, which is said of it started at its second mark too, and each of its marks has a record
 pub record Recorded (ring : List ℕ) : Type 0 where
   pub apart : Apart ring
   pub apart_next : Apart (rotated ring)
   pub small : (i : ℕ) → i < length ring → slice_index ring i < 128
 
--- the records with q after p, and p before q
+-- the records with q as the mark after p
 abbrev pub with_after : List Record → ℕ → ℕ → List Record
 with_after rs p q = slice_set rs p (record { is_in = (at rs p).is_in; before = (at rs p).before; after = q })
 
+-- the records with p as the mark before q
 abbrev pub with_before : List Record → ℕ → ℕ → List Record
 with_before rs q p = slice_set rs q (record { is_in = (at rs q).is_in; before = p; after = (at rs q).after })
 

@@ -31,7 +31,8 @@ pub record Within (m : Meaning) (ring : List ℕ) (x : ℕ) : Type 0 where
   pub x_in : T (set x)
   pub x_off : On ring x → ⊥
 
--- what a mark of the ring leaves on the ring around x: by whether x sees the arc to it and the arc from it, nothing, itself, or itself and x
+-- what mark a of the old ring leaves on the ring around x, by whether x sees the arc to it and the arc from it: nothing, itself, or itself
+-- and x
 abbrev pub left_on : Bool → Bool → ℕ → ℕ → List ℕ
 left_on true true a x = []
 left_on true false a x = a ∷ []

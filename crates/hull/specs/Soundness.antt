@@ -1,4 +1,5 @@
--- Records and a ring are those of the marks that are in: that fact holds in one way at most.
+-- `Sound`, the fact that records and a ring are those of the marks that are in, has one proof at most, which is what `IsProp` says; so has
+-- each fact that it is made of, and these come first.
 use Rattle.std.specs.Prelude.{◌≡◌, ℕ, Bool, ◌≢◌, List, [], ◌∷◌}
 use Rattle.std.specs.Coded.{×_prop, Π_prop, →_prop, Unit-prop, le_prop}
 use Rattle.std.specs.List.{AllByRecursion, AllByRecursion-prop}
@@ -25,7 +26,7 @@ ReadOut-prop : (l : List ℕ) → IsProp (ReadOut l)
 ReadOut-prop [] = Unit-prop
 ReadOut-prop (a ∷ l) = AllByRecursion-prop _ (λ b. le_prop) l
 
--- a step leaves one of the marks on the way, so no other
+-- no step of the way starts at a mark that is not on it
 step_leaves : (a c : ℕ) (l : List ℕ) (b p q : ℕ) → AllByRecursion (λ r. r ≢ a) (c ∷ l) → Step c l b p q → p ≢ a
 step_leaves a c [] b p q (n, _) (e, _) d = n (sym e ∙ d)
 step_leaves a c (k ∷ l) b p q (n, _) (inl (e, _)) d = n (sym e ∙ d)

@@ -12,7 +12,7 @@ abbrev pub word : Side → List ℕ
 word Edge = codes "edge"
 word Inside = codes "inside"
 
--- the fields of a reply, parted by tabs; the list that goes with one that wrote is not shown
+-- the fields of a reply, parted by tabs; a list that was written into is not shown
 abbrev pub fields : Reply → List ℕ
 fields (Added a) = word a.side ++ tabbed (a.left ∷ [])
 fields (Dropped n) = decimal n

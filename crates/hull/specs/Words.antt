@@ -12,7 +12,7 @@ word_of f a (suc n) = cond (f a) 1 0 + 2 * word_of f (a + 1) n
 abbrev pub bit : ℕ → ℕ → Bool
 bit w k = w / 2 ^ k % 2 == 1
 
--- how many of the n numbers from a on pass
+-- how many of the n numbers from a on pass the test f
 unfoldable pub how_many : (ℕ → Bool) → ℕ → ℕ → ℕ
 how_many f a n = length (filter f (range_with_len a n))
 

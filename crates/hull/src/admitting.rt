@@ -9,8 +9,8 @@ use cc::CcSystem;
 use cc::faults::Fault;
 
 impl HullState {
-    // Stay two: each answers a question of its own with a fault of its own; one function would take both as values.
     // Whether mark x may be added.
+    // It and `holds` stay two functions: they want opposite flags, and each has a fault of its own; one function would be handed both.
     pub(crate) fn admits<S: CcSystem>(&self, system: &S, x: usize) -> Result<(), Fault>
         ensures admits { Admits (S.CcSystem.meaning system.now) (held self.now.records) x result }
     {

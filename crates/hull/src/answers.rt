@@ -5,12 +5,13 @@
 pub enum Side {
     // on the outline
     Edge,
-    // within it
+    // inside it
     Inside,
 }
 
-// What an add did: where the mark stands, and how many marks left the outline, none where it stands within.
-// Stays a struct: a mark within is told and printed with its number too, which is 0, and who calls reads the two fields.
+// What an add did: where the mark stands, and how many marks left the outline, none where it stands inside.
+// It stays a struct, and no enum of which only the edge has a number: an inside mark is printed with its number too, which is 0, and
+// callers read the two fields.
 #[derive(Clone, Copy, PartialEq, Eq, Debug)]
 pub struct Added {
     pub side: Side,
@@ -22,6 +23,6 @@ pub struct Added {
 pub enum Placed {
     // on the outline: its position in the ring as it is read out, from 0
     Edge(usize),
-    // within: the two marks that make its fan triangle with the ring's first mark
+    // inside: the two marks that make its fan triangle with the ring's first mark
     Inside(usize, usize),
 }

@@ -13,7 +13,8 @@ use super::rings::Ring;
 use cc::CcSystem;
 use cc::faults::Fault;
 
-// Whether x stands on the ring `with`, that of the marks of `without` and x; and if so, how many marks of `without` it has pushed off.
+// `without` is the outline of some marks, and `with` that of these marks and x. If x stands on `with`, how many marks of `without` it has
+// pushed off.
 fn exchanged(without: &Ring, with: &Ring, x: usize) -> Option<usize>
     ensures exchanged { Exchanged (listed without.now) (listed with.now) x result }
 {
@@ -39,7 +40,7 @@ impl From<Option<usize>> for Added {
 }
 
 impl<S: CcSystem> DynamicHull<S> {
-    // Puts mark m in.
+    // Puts mark m in, and answers where it stands and how many marks left the outline.
     pub fn add(&mut self, m: usize) -> Result<Added, Fault>
         ensures answer { Answers (S.CcSystem.meaning self.old.system) (held self.old.state.records) (add m) (added_answer result) }
         ensures marks { MatchResult result (λ _. OneMore (held self.old.state.records) m (held self.new.state.records)) (λ _. self.new.state ≡ self.old.state) }
@@ -53,7 +54,7 @@ impl<S: CcSystem> DynamicHull<S> {
         Ok(Added::from(pushed_off))
     }
 
-    // Takes mark m out, and finds the outline of the marks that are left.
+    // Takes mark m out, finds the outline of the marks that are left, and answers how many of them came onto it.
     pub fn drop(&mut self, m: usize) -> Result<usize, Fault>
         ensures answer { Answers (S.CcSystem.meaning self.old.system) (held self.old.state.records) (drop m) (dropped_answer result) }
         ensures marks { MatchResult result (λ _. OneMore (held self.new.state.records) m (held self.old.state.records)) (λ _. self.new.state ≡ self.old.state) }

@@ -10,7 +10,7 @@ use super::rings::Ring;
 use arrayvec::ArrayVec;
 use cc::{CcSystem, Turn};
 
-// Whether x lies to the right of the way from p to q. Every question of a hull to its system is asked here.
+// Whether x lies to the right of the way from p to q. Every turn that a hull asks its system for is asked for here.
 pub(crate) fn lies_right<S: CcSystem>(system: &S, p: usize, q: usize, x: usize) -> bool
     requires three { Three (S.CcSystem.meaning system.now).count p q x }
     ensures right { result ≡ (S.CcSystem.meaning system.now).left p x q }
@@ -19,6 +19,7 @@ pub(crate) fn lies_right<S: CcSystem>(system: &S, p: usize, q: usize, x: usize) 
 }
 
 impl Ring {
+    // The ring of no mark.
     pub(crate) fn empty() -> Ring
         ensures none { listed result ≡ [] }
     {
@@ -34,7 +35,8 @@ impl Ring {
         self.marks.iter().position(|mark| *mark == x)
     }
 
-    // Puts on what a mark of the old ring leaves on the ring around x.
+    // Puts on what a mark of the old ring leaves on the ring around x: `seen_to` and `seen_from` say whether x sees the arc to the mark and
+    // the arc from it, which is whether it lies to the right of them.
     fn put(&mut self, mark: usize, x: usize, seen_to: bool, seen_from: bool)
         requires room { length (listed self.old) + length (left_on seen_to seen_from mark x) ≤ 128 }
         ensures put { listed self.new ≡ listed self.old ++ left_on seen_to seen_from mark x }
@@ -61,7 +63,7 @@ impl Ring {
         Ring { marks }
     }
 
-    // The ring around its marks and x, from some mark on. Each arc is asked about once.
+    // The ring around the marks of this one and x, from some mark on. Each arc is asked about once.
     fn around<S: CcSystem>(&self, system: &S, x: usize) -> Ring
         requires beside { Beside (S.CcSystem.meaning system.now) (listed self.now) x }
         requires two { 2 ≤ length (listed self.now) }
@@ -70,7 +72,8 @@ impl Ring {
         let marks = &self.marks[..];
         let closing_seen = lies_right(system, marks[marks.len() - 1], marks[0], x);
         let mut new = Ring::empty();
-        // Stay carried from mark to mark: a zip of the ring with itself would ask about each arc twice, from both of its marks.
+        // `mark` and `seen_to` stay carried from mark to mark: a zip of the ring with itself would ask about each arc twice, at both of its
+        // marks.
         let mut mark = marks[0];
         let mut seen_to = closing_seen;
         for next in &marks[1..] {
@@ -105,7 +108,7 @@ impl Ring {
         }
     }
 
-    // The ring around its marks and x.
+    // The ring around the marks of this one and x, from its lowest mark on.
     pub(crate) fn grow<S: CcSystem>(&self, system: &S, x: usize) -> Ring
         requires beside { Beside (S.CcSystem.meaning system.now) (listed self.now) x }
         ensures grows { Grows (S.CcSystem.meaning system.now) (listed self.now) x (listed result) }

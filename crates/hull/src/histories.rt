@@ -44,8 +44,8 @@ pub enum Reply {
 }
 
 // A reply, or why the call was declined; and what the caller's list holds after the call, which is empty where none was handed over.
-// That the list is empty where no call wrote into it stays a clause of each function that makes an answer: as a fact in the struct it would be
-// asked of whoever builds one.
+// That it is empty then stays a clause of each function that makes an answer (`Bare`): as a fact in the struct it would be asked of whoever
+// builds one.
 #[derive(Drop)]
 pub struct Answer {
     pub reply: Result<Reply, Fault>,
@@ -62,7 +62,8 @@ pub struct Step {
 
 impl Question {
     // Puts the question to a hull, which writes into the list that goes with it.
-    // Stays apart from the shell's `make`, as a call's does: lists are on the heap here, and of any length.
+    // It and `make_on` stay apart from `calls::make` of the shell, which makes the same calls: here the list comes with the call, is on the heap
+    // and of any length.
     fn put_to<S: CcSystem>(&mut self, hull: &DynamicHull<S>) -> Result<Reply, Fault>
         ensures answer { Answers (S.CcSystem.meaning hull.now.system) (held hull.now.state.records) (question_of self.old) (told result (list_of (question_of self.new))) }
         ensures bare { bare result (list_of (question_of self.new)) }

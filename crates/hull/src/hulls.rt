@@ -1,4 +1,4 @@
-//! The dynamic hull.
+//! The dynamic hull: an outline that changes with the marks that are in.
 
 ghost use Rattle.std.specs.Prelude.{◌≡◌, ℕ, false};
 ghost use Rattle.runs.specs.Calls.{Answers, outline, rounds};
@@ -16,8 +16,8 @@ use cc::lists::copy_front;
 
 // Some marks of a CC system, those that are in, and the outline around them. A mark is in from an add of it that is
 // not declined until the next such drop.
-// Stay in each clause what the system means, which marks are in, and that the system is the same: a model of the three would be taken apart
-// in each.
+// What the system means, which marks are in, and that the system is the same stay written out in each clause of its calls: one model of the
+// three would be taken apart in each.
 #[derive(Drop)]
 pub struct DynamicHull<S: CcSystem> {
     pub(crate) system: S,

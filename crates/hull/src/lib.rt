@@ -1,4 +1,4 @@
-//! A convex hull over any CC system that changes mark by mark.
+//! A convex hull over any CC system, which changes as marks are added and dropped.
 
 #![tactic(auto)]
 

@@ -10,7 +10,7 @@ ghost use Rattle.hull.specs.Records.{flagged};
 use super::rings::Ring;
 use cc::{CcSystem, LIMIT};
 
-// The outline of the flagged marks, from its lowest mark on: one mark after another.
+// The outline of the flagged marks, from its lowest mark on, found by adding one mark after another.
 pub(crate) fn outline_of<S: CcSystem>(system: &S, flags: &[bool; LIMIT]) -> Ring
     requires marks { Marks (S.CcSystem.meaning system.now) (of (flagged flags.now)) }
     ensures ring { RingOf (S.CcSystem.meaning system.now) (flagged flags.now) (listed result) }

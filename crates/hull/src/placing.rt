@@ -17,8 +17,8 @@ use cc::faults::Fault;
 impl Ring {
     // The two marks that make a triangle around x with the ring's first mark, by bisection: x lies left of the way
     // from the first mark to the one at `low`, and right of the way to the one at `high`.
-    // Stays a loop: `partition_point` was tried, and the proof did not close, for its question may be asked about any number, and this one
-    // only about marks of the ring.
+    // It stays a loop: with `partition_point` the proof does not close, since the closure handed to it may be asked about any number, and
+    // `lies_right` only about marks.
     fn fan<S: CcSystem>(&self, system: &S, x: usize) -> (usize, usize)
         requires within { Within (S.CcSystem.meaning system.now) (listed self.now) x }
         ensures fan { Fan (S.CcSystem.meaning system.now) x result.0 result.1 (listed self.now) }

@@ -6,7 +6,7 @@ use super::rings::Ring;
 use cc::LIMIT;
 
 // Whether a mark is in, and its two neighbours on the outline; of a mark that is not on it the neighbours say nothing.
-// Stays a flag beside two numbers: a mark that is in has neighbours only while it is on the outline, so an `Option` of them would not
+// It stays a flag beside two numbers: a mark that is in has neighbours only while it is on the outline, so an `Option` of them would not
 // say whether it is in, and each mark that leaves the outline would have to be found and cleared.
 #[derive(Clone, Copy)]
 pub struct Record {

@@ -28,8 +28,8 @@ impl HullState {
     pub(crate) fn flags(&self) -> [bool; LIMIT]
         ensures flags { (p : ℕ) → flagged result p ≡ held self.now.records p }
     {
-        // Stays a loop: `array::from_fn`, and a zip with `iter_mut`, were tried, and the proofs did not close; `self.records.map(..)` copies the
-        // records first, which made a drop on 16 marks a quarter slower.
+        // stays a loop: with `array::from_fn`, or a zip with `iter_mut`, the proof does not close; `self.records.map(..)` copies the
+        // records first, and with it a drop on 16 marks takes a quarter longer
         let mut flags = [false; LIMIT];
         for (mark, record) in self.records.iter().enumerate() {
             flags[mark] = record.is_in;
@@ -66,7 +66,7 @@ impl HullState {
         ensures links { Linked self.new.records (listed ring) }
         ensures marks { (p : ℕ) → held self.new.records p ≡ held self.old.records p }
     {
-        // Stays carried from mark to mark: a zip of the ring with itself was tried, and the proof did not close.
+        // `mark` stays carried from mark to mark: with a zip of the ring with itself the proof does not close
         if let [first, rest @ ..] = &ring.marks[..] {
             let mut mark = *first;
             for next in rest {

@@ -27,7 +27,7 @@ module _ {m : Meaning} (L : Lawful m) {s : ℕ → Type 0} where
             (L.cyclic (b.left p a.from n a.apart)))
       ]
 
-  -- an arc stays one beside a mark to its left
+  -- an arc of s is an arc of s with x, if x is to its left
   pub kept : {p q x : ℕ} → Arc m s p q → Left m p q x → Arc m (adding s x) p q
   kept {p} {q} {x} a k = record { from = inl a.from; to = inl a.to; apart = a.apart; left = left }
     where

@@ -1,4 +1,4 @@
--- Lists of names: when their marks are different and below the count.
+-- The lists of renamings: when their entries are different marks below the count.
 use Rattle.std.proofs.Common.{ℕ, suc, ◌<◌, Bool, true, false, not, ◌&&◌, T, eqb, ltb, ◌≢◌, List, [], ◌∷◌, length, sym, subst, arith, ltb→lt, lt→ltb, T_not, ne_eqb}
 use lib.Dec.{eqb_refl}
 use Rattle.std.specs.List.{AllByRecursion}

@@ -15,7 +15,7 @@ use Rattle.laws.proofs.Renaming.{in_names, picked_lawful, picked_outline, image_
 abbrev with_names : Meaning → List ℕ → Bool → Meaning
 with_names m xs b = record { count = cond b (length xs) 0; left = λ i j k. m.left (named xs i) (named xs j) (named xs k) }
 
--- below a count that is 0 unless the test passes
+-- a count that is n if a test passes, and 0 otherwise
 pub passes : (b : Bool) (k n : ℕ) → k < cond b n 0 → T b × (k < n)
 passes true k n h = (tt, h)
 passes false k n h = absurd (omega arith)
@@ -29,7 +29,7 @@ rejected true n h = absurd (h tt)
 rejected false n h = refl
 
 module _ (m : Meaning) (xs : List ℕ) where
-  -- the count goes by the largest name, where no name stands twice
+  -- the count of an accepted renaming is the length of its list
   pub accepted_count : length xs ≤ 128 → T (different m.count xs) → (renamed m xs).count ≡ length xs
   accepted_count short d = chosen (namable m xs) (length xs) (and (leb (length xs) 128) (different m.count xs) (subst T (sym (le-leb (length xs) 128 short)) tt) d)
 

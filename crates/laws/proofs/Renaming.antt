@@ -1,4 +1,4 @@
--- Marks under other names: the laws, and the outlines, which correspond.
+-- Marks under new numbers: the laws, and the outlines, which correspond.
 use Rattle.std.proofs.Common.{◌≡◌, ℕ, zero, suc, ◌<◌, ◌≢◌, List, [], ◌∷◌, map, length, sym, refl, ap, ◌∙◌, subst, inl, inr, arith}
 use Rattle.std.specs.List.{AllByRecursion}
 use Rattle.std.proofs.ByRecursion.{All-get_or}
@@ -22,7 +22,7 @@ named_apart (x ∷ xs) a (suc i) (suc j) hi hj n e = named_apart xs a.1 i j (ome
 pub named_same : (xs : List ℕ) → Apart xs → (i j : ℕ) → i < length xs → j < length xs → named xs i ≡ named xs j → i ≡ j
 named_same xs apart i j hi hj e = elim (other i j) [ inl d ↦ d | inr n ↦ absurd (named_apart xs apart i j hi hj n e) ]
 
--- three different names are three different marks
+-- three different places of the list have three different marks
 pub in_names : (m : Meaning) (xs : List ℕ) → Apart xs → AllByRecursion (λ x. x < m.count) xs → {i j k : ℕ} → Three (length xs) i j k
     → Three m.count (named xs i) (named xs j) (named xs k)
 in_names m xs apart small t =
@@ -53,7 +53,7 @@ module _ {m : Meaning} (L : Lawful m) (xs : List ℕ) (apart : Apart xs) (small 
         turns = h.turns;
       }
 
-  -- a list of different marks names them lawfully
+  -- the system of a list of different marks is lawful
   pub picked_lawful : Lawful (picked m xs)
   picked_lawful =
       record {

@@ -42,7 +42,7 @@ module _ {m : Meaning} (L : Lawful m) where
   pub cyclic² : {p q r : ℕ} → Left m p q r → Left m r p q
   cyclic² h = L.cyclic (L.cyclic h)
 
-  -- what turns right turns left the other way round, and the other way round
+  -- where p, q, r turn right, p, r, q turn left; and where p, r, q turn left, p, q, r turn right
   pub right_left : {p q r : ℕ} → Right m p q r → Left m p r q
   right_left h = elim (L.nondegenerate h.three) [ inl l ↦ absurd (h.turns l.turns) | inr l ↦ l ]
 

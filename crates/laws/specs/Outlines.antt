@@ -12,14 +12,14 @@ Marks m s = (p : ℕ) → s p → p < m.count
 abbrev pub adding : (ℕ → Type 0) → ℕ → ℕ → Type 0
 adding s x p = s p ⊎ (p ≡ x)
 
--- from p to q is an arc of s: two different marks of s, and every other mark of s is to the left
+-- from p to q is an arc of s: p and q are two different marks of s, and p, q, r turn left for every other mark r of s
 pub record Arc (m : Meaning) (s : ℕ → Type 0) (p q : ℕ) : Type 0 where
   pub from : s p
   pub to : s q
   pub apart : p ≢ q
   pub left : (r : ℕ) → s r → r ≢ p → r ≢ q → Left m p q r
 
--- no mark stands twice
+-- no mark stands twice on the list
 abbrev pub Apart : List ℕ → Type 0
 Apart [] = Unit {0}
 Apart (a ∷ l) = AllByRecursion (λ b. b ≢ a) l × Apart l
@@ -29,18 +29,18 @@ abbrev pub Step : ℕ → List ℕ → ℕ → ℕ → ℕ → Type 0
 Step a [] b p q = (p ≡ a) × (q ≡ b)
 Step a (c ∷ l) b p q = ((p ≡ a) × (q ≡ c)) ⊎ Step c l b p q
 
--- a ring is a list of marks that closes: q follows p in it, and the first follows the last
+-- a ring is a list of marks that closes, its first mark after its last: q follows p on the ring
 abbrev pub Follows : List ℕ → ℕ → ℕ → Type 0
 Follows [] p q = ⊥
 Follows (a ∷ l) p q = Step a l a p q
 
--- a ring without repeats whose pairs are exactly the arcs
+-- the ring is the hull of s: no mark stands on it twice, and its pairs, each mark with the one that follows it, are exactly the arcs of s
 pub record Hull (m : Meaning) (s : ℕ → Type 0) (ring : List ℕ) : Type 0 where
   pub apart : Apart ring
   pub arcs : (p q : ℕ) → Follows ring p q ↔ Arc m s p q
 
 -- the ring is the outline of s: the empty ring if s is empty, one mark if s is that mark alone,
--- and otherwise the ring whose pairs are exactly the arcs
+-- and otherwise, with two marks or more, the hull of s
 pub data Outline (m : Meaning) (s : ℕ → Type 0) : List ℕ → Type 0 where
   none : ((p : ℕ) → s p → ⊥) → Outline m s []
   one : {a : ℕ} → s a → ((p : ℕ) → s p → p ≡ a) → Outline m s (a ∷ [])
@@ -55,8 +55,9 @@ ReadOut (a ∷ l) = AllByRecursion (λ b. a ≤ b) l
 abbrev pub Turned : List ℕ → List ℕ → Type 0
 Turned k l = (a b : List ℕ) × (k ≡ a ++ b) × (l ≡ b ++ a)
 
--- x, outside of the ring, takes the place of the marks strictly inside the run of arcs that it sees:
--- the ring is `first`, `rest`, `last`, `gone`, and x sees just the arcs from `last` through `gone` to `first`
+-- x sees the arc from p to q if p, x, q turn left; if p, q, x turn left, the arc is hidden from x.
+-- x takes the place of the marks strictly inside the run of arcs that it sees: started at some mark, the ring is `first`, `rest`, `last`,
+-- `gone`, and x sees just the arcs from `last` through `gone` to `first`
 pub record Grown (m : Meaning) (s : ℕ → Type 0) (ring : List ℕ) (x : ℕ) : Type 0 where
   pub first : ℕ
   pub rest : List ℕ

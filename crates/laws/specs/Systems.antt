@@ -31,7 +31,8 @@ pub record Same (m m' : Meaning) : Type 0 where
   pub count : m.count ≡ m'.count
   pub turns : (p q r : ℕ) → Left m p q r ↔ Left m' p q r
 
--- the limit on the count, and laws 1 to 5: cyclic symmetry, antisymmetry, nondegeneracy, interiority, transitivity
+-- a meaning is lawful if its count is at most 128 and laws 1 to 5 hold:
+-- cyclic symmetry, antisymmetry, nondegeneracy, interiority, transitivity
 pub record Lawful (m : Meaning) : Type 0 where
   pub limit : m.count ≤ 128
   pub cyclic : {p q r : ℕ} → Left m p q r → Left m q r p

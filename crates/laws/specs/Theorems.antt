@@ -9,13 +9,13 @@ use Rattle.laws.specs.Layers.{mirrored, reversed, named, picked, image, Layer, p
 abbrev pub of : (ℕ → Bool) → ℕ → Type 0
 of s p = T (s p)
 
--- the mirror of law 5: about t, from the other side of st
+-- the mirror of law 5: the same, but with p, q and r left of the way from s to t, and not of the way from t to s
 abbrev pub MirrorLaw : Type 0
 MirrorLaw =
     (m : Meaning) (s t p q r : ℕ) → Lawful m
     → Left m s t p → Left m s t q → Left m s t r → Left m t p q → Left m t q r → Left m t p r
 
--- no mark outside sees every arc of a hull
+-- no mark sees every arc of a hull
 abbrev pub SomeHidden : Type 0
 SomeHidden =
     (m : Meaning) (s : ℕ → Bool) (h : ℕ) (l : List ℕ) (x : ℕ) → Lawful m → Marks m (of s) → Hull m (of s) (h ∷ l)
@@ -51,19 +51,20 @@ Uniqueness =
     (m : Meaning) (s : ℕ → Bool) (k l : List ℕ) → Lawful m → Marks m (of s) → Outline m (of s) k → Outline m (of s) l
     → Turned k l × (ReadOut k → ReadOut l → k ≡ l)
 
--- the outline goes by the turns among the marks of the set
+-- the outline goes by the turns of the marks of the set alone
 abbrev pub GoesByTurns : Type 0
 GoesByTurns =
     (m m' : Meaning) (s : ℕ → Bool) (l : List ℕ)
     → ((p q r : ℕ) → of s p → of s q → of s r → Left m p q r ↔ Left m' p q r) → Outline m (of s) l → Outline m' (of s) l
 
--- the mirrored system is lawful, and its outlines run the other way round: from the same start, or from the old end
+-- the mirrored system is lawful, and its outlines run the other way round: read from the same mark on, or from the one that was last
 abbrev pub Mirrored : Type 0
 Mirrored =
     (m : Meaning) (s : ℕ → Bool) (l : List ℕ) → Lawful m → Marks m (of s)
     → Lawful (mirrored m) × (Outline m (of s) l → Outline (mirrored m) (of s) (reversed l) × Outline (mirrored m) (of s) (reverse l))
 
--- different marks under new names make a lawful system, and its outlines stand for the outlines
+-- different marks of a lawful system under new numbers make a lawful system, and a list is an outline in it exactly where the list of what
+-- its marks mean is one below
 abbrev pub Picked : Type 0
 Picked =
     (m : Meaning) (xs : List ℕ) (s : ℕ → Bool) (l : List ℕ) → Lawful m → Apart xs → AllByRecursion (λ x. x < m.count) xs

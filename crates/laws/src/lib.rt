@@ -1,8 +1,9 @@
-//! What a CC system means, its five laws, and the theory of hulls over them.
+//! CC systems, sets of marks that are known only by how any three of them turn: what a system means, its five laws, and the
+//! theory of outlines over them.
 //!
 //! The definitions stand in `specs/`: `Systems` (a system's meaning and the laws), `Outlines` (arcs, rings and outlines),
-//! `Layers` (mirrors, renamings and piles of them) and `Theorems` (what holds of them all). No code runs here:
-//! the one function below asks for the proofs of the theorems.
+//! `Layers` (mirrors, renamings and piles of them), `Theorems` (what holds of them all) and `First` (what comes first in rising
+//! order). No code runs here: the one function below asks for the proofs of the theorems.
 
 #![tactic(auto)]
 

@@ -1,4 +1,5 @@
--- A spread is lawful where laws 4 and 5 hold of its rising fours and fives, and laws 4 and 5 hold of each rising list of a lawful one.
+-- A spread is a system that is given by the turns of its rising threes. It is lawful where laws 4 and 5 hold of its rising fours and fives,
+-- and laws 4 and 5 hold of each rising list of a lawful one.
 use Rattle.std.proofs.Common.{◌≡◌, ℕ, ◌<◌, ◌≤◌, Bool, true, false, not, T, ◌≢◌, ◌⊎◌, List, [], ◌∷◌, length, sym, refl, ap, ◌∙◌, subst, inl, inr, arith, T_not}
 use Rattle.laws.specs.Systems.{Three, Left, Lawful}
 use Rattle.models.specs.Spread.{Turns, spread, system}

@@ -18,7 +18,7 @@ moved k p = go (ℕ_discrete p k) (ℕ_discrete p (suc k))
     go (no h) (yes e) = rw (ne_eqb p k h, eq-eqb p (suc k) e) (up e)
     go (no h) (no i) = rw (ne_eqb p k h, ne_eqb p (suc k) i) (still h i)
 
--- twice is none, and a crossing of places below n stays below n
+-- a crossing made twice changes nothing, and it takes places below n to places below n
 both : {k p m n : ℕ} → Across k p m → Across k m n → n ≡ p
 both (down x) (down y) = absurd (omega arith)
 both (down x) (up y) = sym x

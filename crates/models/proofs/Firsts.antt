@@ -1,4 +1,4 @@
--- What is first in rising order is one only.
+-- At most one number, one pair and one triple is the first in rising order for which a property holds.
 use Rattle.std.proofs.Common.{◌≡◌, ℕ, ◌<◌, sym, subst, arith}
 use Rattle.laws.specs.First.{First, FirstPair, FirstTriple, NeverPair, NeverTriple}
 

@@ -1,4 +1,4 @@
--- Groups of rising marks below n: that the first of them with a property is one only, and fours and fives with their patterns.
+-- Groups of rising marks below n: at most one is the first that breaks the laws; and fours and fives with their patterns.
 use Rattle.std.proofs.Common.{◌≡◌, ℕ, ◌<◌, ◌⊎◌, ◌↔◌, List, [], ◌∷◌, length, sym, refl, ◌∙◌, subst, ap₂, inl, inr, arith, lit≤}
 use Prim.Native.Nat.{Ordering}
 use Rattle.laws.specs.Systems.{Meaning, Lawful}
@@ -22,7 +22,7 @@ group5 n a b c d e x y z v w = record {
   below = λ k m. omega arith;
 }
 
--- the first in rising order is one only
+-- at most one is the first in rising order
 before_or_after : (xs ys : List ℕ) → length xs ≡ length ys → Before xs ys ⊎ ((xs ≡ ys) ⊎ Before ys xs)
 before_or_after [] [] e = inr (inl refl)
 before_or_after [] (y ∷ ys) e = absurd (omega arith)

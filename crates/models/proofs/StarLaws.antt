@@ -1,4 +1,4 @@
--- A clear star keeps the laws: its rows have w above 0, since no twin of c is left.
+-- A clear star keeps the laws: its rows have w above 0, since no other point stands where c does.
 use Rattle.std.proofs.Common.{◌≡◌, ℕ, zero, suc, ◌+◌, ◌-◌, ◌*◌, ◌<◌, ◌≤◌, Bool, true, false, cond, T, ltb, ◌≢◌, List, length, ℤ, pos, negsuc, ◌+ℤ◌, ◌-ℤ◌, ◌*ℤ◌, nat_abs, sym, refl, ap, ◌∙◌, subst, arith, ltb→lt, lt→ltb}
 use mathlib.Core.Logic.{∥∥₁_elim}
 use mathlib.Core.HLevel.{Π_prop, ¬_prop}

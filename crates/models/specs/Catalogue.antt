@@ -6,23 +6,25 @@ use Rattle.models.specs.Spread.{Turns, spread}
 use Rattle.models.specs.Threes.{table, table_turns, each_three}
 use Rattle.models.specs.Rising.{Mem, Rising}
 
--- the low n bits of a number, the lowest first, and the number back
+-- the low n bits of a number, the lowest first
 abbrev pub bits : ℕ → ℕ → List Bool
 bits zero p = []
 bits (suc n) p = (p % 2 == 1) ∷ bits n (p / 2)
 
+-- the number whose bits these are, the lowest first
 abbrev pub value : List Bool → ℕ
 value [] = 0
 value (b ∷ bs) = cond b 1 0 + 2 * value bs
 
--- the marks that turn as a pattern says
+-- the system of four marks that turn as a pattern says
 abbrev pub four : ℕ → Meaning
 four p = table 4 (bits 4 p)
 
+-- the system of five marks that turn as a pattern says
 abbrev pub five : ℕ → Meaning
 five p = table 5 (bits 10 p)
 
--- a list of all patterns of five marks that keep the laws: there are 264
+-- the list of all patterns of five marks that keep the laws, in rising order: there are 264
 pub record Catalogued (xs : List ℕ) : Type 0 where
   pub long : length xs ≡ 264
   pub rising : Rising xs
@@ -33,27 +35,30 @@ pub record Catalogued (xs : List ℕ) : Type 0 where
 abbrev pub Fours : Type 0
 Fours = (p : ℕ) → p < 16 → ((p ≢ 5) × (p ≢ 10)) ↔ Lawful (four p)
 
--- the turns of marks by their places in a list, and the pattern of k marks
+-- the mark at place k of a list
 abbrev pub at : List ℕ → ℕ → ℕ
 at xs k = slice_index xs k
 
+-- the turns of the marks f 0, f 1, f 2 .., under the numbers 0, 1, 2 ..
 abbrev pub through : (ℕ → ℕ) → Turns → Turns
 through f g i j k = g (f i) (f j) (f k)
 
+-- the pattern of the k marks of a list, which turn as g says
 abbrev pub pattern : ℕ → Turns → List ℕ → ℕ
 pattern k g xs = value (each_three k (through (at xs) g))
 
--- a test passes at each number below n
+-- whether a test passes at each number below n
 abbrev pub all : ℕ → (ℕ → Bool) → Bool
 all zero f = true
 all (suc n) f = let rest = all n f in f n && rest
 
--- laws 4 and 5 as tests, over all orders of the marks below n
+-- law 4 as a test, over all choices of the marks below n in any order
 abbrev pub keeps4 : ℕ → Turns → Bool
 keeps4 n left =
     all n (λ p. all n (λ q. all n (λ r.
     let inside = all n (λ t. not (left t q r && left p t r && left p q t)) in left p q r || inside)))
 
+-- law 5 as a test, in the same way
 abbrev pub keeps5 : ℕ → Turns → Bool
 keeps5 n left =
     all n (λ t. all n (λ s. all n (λ p.
@@ -62,16 +67,19 @@ keeps5 n left =
     not (left t s q && left t p q) || last) in
     not (left t s p) || rest)))
 
+-- both laws
 abbrev pub keeps : ℕ → Turns → Bool
 keeps n left = keeps4 n left && keeps5 n left
 
+-- whether the four marks of a pattern pass both tests
 abbrev pub lawful_four : ℕ → Bool
 lawful_four p = let turns = bits 4 p in keeps 4 (spread (table_turns 4 turns))
 
+-- whether the five marks of a pattern pass both tests
 abbrev pub lawful_five : ℕ → Bool
 lawful_five p = let turns = bits 10 p in keeps 5 (spread (table_turns 5 turns))
 
--- the numbers from k on, n of them, that pass a test
+-- of the n numbers from k on, those that pass a test
 abbrev pub those : (ℕ → Bool) → ℕ → ℕ → List ℕ
 those f k zero = []
 those f k (suc n) = elim (f k) [ true ↦ k ∷ those f (suc k) n | false ↦ those f (suc k) n ]

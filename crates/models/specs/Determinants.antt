@@ -2,12 +2,13 @@
 use Rattle.std.specs.Prelude.{ℕ, ◌<◌, ◌≤◌, Bool, T, ◌≢◌, ℤ, pos, ◌+ℤ◌, ◌-ℤ◌, ◌*ℤ◌, int_lt}
 use Rattle.laws.specs.Systems.{Meaning, Three, Lawful}
 
+-- a row (a, b, w)
 pub record Row : Type 0 where
   pub a : ℤ
   pub b : ℤ
   pub w : ℤ
 
--- the determinant of three rows: w1(a2b3 − a3b2) − w2(a1b3 − a3b1) + w3(a1b2 − a2b1)
+-- the determinant of the rows p, q, r, here numbered 1, 2, 3: w1(a2b3 − a3b2) − w2(a1b3 − a3b1) + w3(a1b2 − a2b1)
 unfoldable pub det : Row → Row → Row → ℤ
 det p q r =
     p.w *ℤ (q.a *ℤ r.b -ℤ r.a *ℤ q.b) -ℤ q.w *ℤ (p.a *ℤ r.b -ℤ r.a *ℤ p.b) +ℤ r.w *ℤ (p.a *ℤ q.b -ℤ q.a *ℤ p.b)
@@ -16,6 +17,7 @@ det p q r =
 abbrev pub positive : ℤ → Bool
 positive z = int_lt (pos 0) z
 
+-- z is above 0
 abbrev pub Positive : ℤ → Type 0
 Positive z = T (positive z)
 

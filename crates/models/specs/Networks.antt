@@ -14,10 +14,11 @@ abbrev pub wire : List ℕ → ℕ → ℕ → ℕ
 wire cs zero p = p
 wire cs (suc t) p = wire cs t (across (slice_index cs t) p)
 
--- the wires that the crossing at entry t swaps
+-- the upper one of the two wires that the crossing at entry t swaps
 abbrev pub upper : List ℕ → ℕ → ℕ
 upper cs t = wire cs t (slice_index cs t)
 
+-- the lower one
 abbrev pub lower : List ℕ → ℕ → ℕ
 lower cs t = wire cs t (suc (slice_index cs t))
 
@@ -27,15 +28,15 @@ pub record Cross (cs : List ℕ) (i j t : ℕ) : Type 0 where
   pub above : upper cs t ≡ i
   pub below : lower cs t ≡ j
 
--- a crossing of n wires has both its places
+-- the crossing at entry t has both its places among n wires
 abbrev pub InRange : ℕ → List ℕ → ℕ → Type 0
 InRange n cs t = suc (slice_index cs t) < n
 
--- it is legal where the upper wire has the smaller number
+-- the crossing at entry t is legal: its upper wire has the smaller number
 abbrev pub Legal : List ℕ → ℕ → Type 0
 Legal cs t = upper cs t < lower cs t
 
--- a network of n wires
+-- the list is a network of n wires: as many crossings as there are pairs of wires, each in range and legal
 pub record Network (n : ℕ) (cs : List ℕ) : Type 0 where
   pub long : length cs ≡ pairs_of n
   pub range : (t : ℕ) → t < length cs → InRange n cs t
@@ -54,7 +55,7 @@ crossing cs i j = first (λ t. (upper cs t == i) && lower cs t == j) (length cs)
 abbrev pub crossing_turns : List ℕ → Turns
 crossing_turns cs i j k = nat_lt (crossing cs i j) (crossing cs j k)
 
--- what a network means
+-- what a network means: the system whose marks are its wires
 abbrev pub network : ℕ → List ℕ → Meaning
 network n cs = system n (crossing_turns cs)
 

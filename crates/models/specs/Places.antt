@@ -11,7 +11,7 @@ pub record Near (p : Place) : Type 0 where
   pub y_near : unsigned_abs p.y ≤ 10000
   deriving IsProp as near-prop
 
--- twice the area of the triangle p q r, above 0 if they turn left
+-- twice the signed area of the triangle p q r, above 0 if they turn left
 abbrev pub cross : Place → Place → Place → ℤ
 cross p q r = (q.x -ℤ p.x) *ℤ (r.y -ℤ p.y) -ℤ (q.y -ℤ p.y) *ℤ (r.x -ℤ p.x)
 
@@ -19,17 +19,19 @@ cross p q r = (q.x -ℤ p.x) *ℤ (r.y -ℤ p.y) -ℤ (q.y -ℤ p.y) *ℤ (r.x -
 abbrev pub place : List Place → ℕ → Place
 place ps i = slice_index_or ps i (record { x = pos 0; y = pos 0 })
 
+-- the i-th place is out of range
 abbrev pub Far : List Place → ℕ → Type 0
 Far ps i = Near (place ps i) → ⊥
 
+-- all places of the list are in range
 abbrev pub AllNear : List Place → Type 0
 AllNear ps = (i : ℕ) → i < length ps → Near (place ps i)
 
--- i and j stand in one place
+-- the i-th place and the j-th are the same
 abbrev pub Twins : List Place → ℕ → ℕ → Type 0
 Twins ps i j = place ps i ≡ place ps j
 
--- i, j and k lie on a line
+-- the i-th place, the j-th and the k-th lie on a line
 abbrev pub InLine : List Place → ℕ → ℕ → ℕ → Type 0
 InLine ps i j k = cross (place ps i) (place ps j) (place ps k) ≡ pos 0
 

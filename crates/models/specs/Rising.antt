@@ -16,7 +16,7 @@ Rising (x ∷ xs) = ((z : ℕ) → Mem z xs → x < z) × Rising xs
 abbrev pub Below : ℕ → List ℕ → Type 0
 Below n xs = (z : ℕ) → Mem z xs → z < n
 
--- one list comes before another: the first entry decides, or where it is the same the rest
+-- of two lists of the same length, one comes before the other: the first entries decide, or the rest where these are the same
 abbrev pub Before : List ℕ → List ℕ → Type 0
 Before [] ys = ⊥
 Before (x ∷ xs) [] = ⊥
@@ -37,11 +37,11 @@ pub record LawfulAmong (m : Meaning) (xs : List ℕ) : Type 0 where
       (t s p q r : ℕ) → Mem t xs → Mem s xs → Mem p xs → Mem q xs → Mem r xs →
       Left m t s p → Left m t s q → Left m t s r → Left m t p q → Left m t q r → Left m t p r
 
--- they do so of every k marks
+-- laws 4 and 5 hold among every k marks of the system
 abbrev pub AllLawful : ℕ → Meaning → Type 0
 AllLawful k m = (xs : List ℕ) → Group k m.count xs → LawfulAmong m xs
 
--- the first k marks, in rising order, of which they do not
+-- the first k marks, in rising order, among which laws 4 and 5 do not both hold
 pub record FirstLawless (k : ℕ) (m : Meaning) (xs : List ℕ) : Type 0 where
   pub group : Group k m.count xs
   pub lawless : LawfulAmong m xs → ⊥

@@ -6,7 +6,7 @@ use Rattle.models.specs.Determinants.{Row, det, by_sign}
 use Rattle.laws.specs.First.{NeverTriple}
 use Rattle.models.specs.Places.{place, Good}
 
--- p as seen from c
+-- p as seen from c: the coordinates less those of c, and the square of the distance
 abbrev pub seen : Place → Place → Row
 seen c p =
     record {
@@ -19,11 +19,12 @@ seen c p =
 abbrev pub other : ℕ → ℕ → ℕ
 other c i = cond (nat_lt i c) i (i + 1)
 
--- the star about c: one mark less, and a turn is left where the determinant of three points as seen from c is above 0
+-- the star about c: it has one mark less than the list has points, and three of its marks turn left where the determinant of their points,
+-- as seen from c, is above 0
 abbrev pub star : List Place → ℕ → Meaning
 star ps c = by_sign (length ps - 1) (λ i. seen (place ps c) (place ps (other c i)))
 
--- three points besides c that lie on one circle with it
+-- three points besides c that lie on one circle with it, or on one line (which a good list excludes)
 pub record OnCircle (ps : List Place) (c i j k : ℕ) : Type 0 where
   pub i≢c : i ≢ c
   pub j≢c : j ≢ c

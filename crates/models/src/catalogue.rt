@@ -1,13 +1,14 @@
 //! The lawful patterns of four and of five marks.
 //!
 //! A pattern has one bit for each rising three of the marks, in rising order from the lowest bit on, and a one means left:
-//! of four marks 012, 013, 023, 123; of five 012, 013, 014, 023, 024, 034, 123, 124, 134, 234.
+//! of four marks 012, 013, 023, 123; of five 012, 013, 014, 023, 024, 034, 123, 124, 134, 234. It is lawful where marks that
+//! turn as it says keep the five laws.
 
 ghost use Rattle.std.specs.Prelude.{◌<◌, T, ◌≢◌, ◌↔◌};
 ghost use Rattle.laws.specs.Systems.{Lawful};
 ghost use Rattle.models.specs.Catalogue.{four, five, Catalogued, Fours};
 
-// The patterns of five marks that keep the laws, in rising order.
+// The lawful patterns of five marks, in rising order.
 const CATALOGUE: [u16; 264] = [
     0, 1, 3, 4, 6, 7, 11, 15, 20, 22, 30, 31, 32, 33, 48, 52, 56, 60, 62, 63, 64, 68, 72, 74, 75,
     76, 77, 79, 84, 85, 93, 95, 96, 112, 116, 117, 119, 127, 129, 131, 138, 139, 145, 146, 147,
@@ -32,7 +33,7 @@ pub fn catalogue() -> &'static [u16]
     &CATALOGUE
 }
 
-// Whether five marks that turn as the pattern says keep the laws.
+// Whether a number is a lawful pattern of five marks.
 pub fn is_lawful_five(pattern: u16) -> bool
     ensures lawful { T result ↔ ((pattern < 1024) × Lawful (five pattern)) }
 {
@@ -46,14 +47,14 @@ fn is_neither_five_nor_ten(pattern: u16) -> bool
     pattern < 16 && pattern != 5 && pattern != 10
 }
 
-// Whether four marks that turn as the pattern says keep the laws.
+// Whether a number is a lawful pattern of four marks.
 pub fn is_lawful_four(pattern: u16) -> bool
     ensures lawful { T result ↔ ((pattern < 16) × Lawful (four pattern)) }
 {
     is_neither_five_nor_ten(pattern)
 }
 
-// The theorem of the patterns of four marks, as a contract.
+// Of the patterns of four marks 5 and 10 alone are not lawful: the contract names the theorem.
 pub fn fours_stand()
     ensures fours { Fours }
 {}

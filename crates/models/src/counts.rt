@@ -1,4 +1,4 @@
-//! How many pairs and threes some marks have.
+//! How many pairs and how many threes some marks have; the order within a pair or a three does not count.
 
 ghost use Rattle.std.specs.Prelude.{◌≡◌, min};
 ghost use Rattle.models.specs.Threes.{pairs_of, threes_of};

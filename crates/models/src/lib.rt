@@ -1,4 +1,4 @@
-//! Why the library's own systems keep the five laws: definitions and proofs, hardly any code.
+//! Why points, stars, reflection networks and turn tables keep the five laws: definitions and proofs, and little code.
 
 #![tactic(auto)]
 
@@ -12,8 +12,8 @@ ghost use Rattle.models.specs.Places.{PointsKeepTheLaws};
 ghost use Rattle.models.specs.Stars.{StarsKeepTheLaws};
 ghost use Rattle.models.specs.Circles.{OutsideByDeterminant};
 
-// Systems that go by the signs of determinants: rows in general position, and among them points of the plane and stars;
-// and that a star's determinant tells which places lie outside of a circle.
+// Rows in general position, points of the plane and stars keep the laws, since their turns are the signs of determinants;
+// and a star's determinant tells which places lie outside of a circle. The contract names the theorems.
 pub fn determinants_stand()
     ensures signs { SignsKeepTheLaws }
     ensures points { PointsKeepTheLaws }

@@ -3,7 +3,7 @@
 ghost use Rattle.std.specs.Prelude.{MatchBool};
 ghost use Rattle.models.specs.Places.{Near};
 
-// The greatest size of a coordinate.
+// The greatest absolute value of a coordinate.
 const REACH: u32 = 10_000;
 
 // A place, in twentieths of a millimetre.

@@ -1,4 +1,4 @@
--- Two readings that agree on the marks that are in have the same answers to the questions.
+-- Two meanings that agree on the marks that are in have the same answers to the questions.
 use Rattle.std.proofs.Common.{◌≡◌, ℕ, ◌<◌, ◌≤◌, Bool, T, ◌⊎◌, List, ◌++◌, length, get_or, drop as behind, sym, ◌∙◌, subst}
 use mathlib.Core.Logic.Iff
 use Rattle.laws.specs.Systems.{Meaning, Lawful}
@@ -74,7 +74,7 @@ module _ {m m' : Meaning} where
     agree rounds? (tight_rounds {l = l} i) =
         subst (λ c. Answers m' s (rounds l) (declined (Tight c) l)) (sym g.count) (tight_rounds (subst (λ c. length l < c) g.count i))
 
--- the same marks and the same turns of them, the same answers
+-- where the same marks are in and turn alike, the answers are the same
 pub same_answers : {m m' : Meaning} → Lawful m → Lawful m' → (s : ℕ → Bool) (c : Call) {a a' : Answer} → Marks m (of s) → Agree m m' s → Question c
     → Answers m s c a → Answers m' s c a' → a ≡ a'
 same_answers L L' s c marks g q h h' = one_answer L' s (agree_marks g marks) c (agree L g q h) h'

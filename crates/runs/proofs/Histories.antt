@@ -31,7 +31,7 @@ or_same : {A B : Type 0} → (A → B) → (B → A) → OrNot A → OrNot B
 or_same f g (inl a) = inl (f a)
 or_same f g (inr n) = inr (λ b. n (g b))
 
--- which call and which answer it is
+-- calls and answers by numbers, so that different ones can be told apart
 abbrev pub tag : Call → ℕ
 tag (add x) = 0
 tag (drop x) = 1
@@ -181,7 +181,7 @@ added_near (stranger i j) n = absurd (n (_, _, refl))
 added_near (already_in i j) n = absurd (n (_, _, refl))
 added_near (absent i j k) n = absurd (add_needs_none i)
 
--- the marks that are in are marks of the reading
+-- the marks that are in are marks of the system
 pub in_marks : {m : Meaning} {h : History} → Right m h → (s : ℕ → Bool) → HasIn h s → Marks m (of s)
 in_marks {h = h} right s has p k =
     let (i, (a, here, n), _) = (has p).0 k in

@@ -114,7 +114,7 @@ module _ {m : Meaning} (L : Lawful m) {s : ℕ → Type 0} (marks : Marks m s) {
         off_new k l h.1 i.1,
       )
 
--- s with x
+-- s with x is t
 pub by_more : {s t : ℕ → Bool} {x : ℕ} → OneMore s x t → (p : ℕ) → adding (of s) x p ↔ of t p
 by_more {t = t} {x = x} h p = (
   λ k. elim (other p x) [
@@ -125,7 +125,7 @@ by_more {t = t} {x = x} h p = (
 )
 
 -- what adding x does to the ring, as the answer has it: nothing if x is inside; otherwise x comes on, and the marks `gone` leave.
--- Read from t to s it is what taking x does
+-- Read from t to s it is what dropping x does
 pub one_more : {m : Meaning} → Lawful m → (s t : ℕ → Bool) (x : ℕ) (old new : List ℕ) → Marks m (of s) → x < m.count → OneMore s x t
     → RingOf m s old → RingOf m t new → 2 ≤ length old
     → ((On new x → ⊥) × (new ≡ old) × Lacking new old 0) ⊎ ((g : Grown m (of s) old x) × On new x × Lacking new old (length g.gone) × (length new + length g.gone ≡ length old + 1))

@@ -216,7 +216,7 @@ module _ {m : Meaning} (L : Lawful m) where
       )
 
   module _ (s : ℕ → Bool) (marks : Marks m (of s)) where
-    -- a mark is no mark of the reading, or out, or in
+    -- a number is no mark of the system, or a mark that is out, or one that is in
     where_is : {A : Type 0} (x : ℕ) → (m.count ≤ x → A) → (x < m.count → (T (s x) → ⊥) → A) → (x < m.count → T (s x) → A) → A
     where_is x far out held =
         elim (dec_lt x m.count) [

@@ -25,7 +25,7 @@ pub follows_on : (l : List ℕ) (p q : ℕ) → Follows l p q → On l p
 follows_on [] p q f = absurd f
 follows_on (a ∷ l) p q f = let (i, h, e, _) = place a l a p q f in (i, h, e)
 
--- a mark that is followed to is on the way
+-- a mark that follows another on the way is on it
 to_way : (a : ℕ) (l : List ℕ) (b p q : ℕ) → Step a l b p q → AllByRecursion (λ c. c ≢ q) l → b ≢ q → ⊥
 to_way a [] b p q k n n' = n' (sym k.1)
 to_way a (c ∷ l) b p q (inl k) n n' = n.0 (sym k.1)
@@ -41,7 +41,7 @@ outline_in (none h) = tt
 outline_in (one h u) = (h, tt)
 outline_in (more r) = ((first_arc r).from, walk_in (loop r).walk)
 
--- a mark of the set off a round is left of each of its arcs
+-- a mark of the set off a hull is left of each of its arcs
 pub left_of_all : {m : Meaning} {s : ℕ → Type 0} {l : List ℕ} {x : ℕ} → Hull m s l → s x → (On l x → ⊥) → (p q : ℕ) → Follows l p q → Left m p q x
 left_of_all {l = []} r h n p q f = absurd f
 left_of_all {l = a ∷ l} {x = x} r h n p q f =
@@ -51,7 +51,7 @@ left_of_all {l = a ∷ l} {x = x} r h n p q f =
     (λ e. let i = subst (λ y. AllByRecursion (λ c. c ≢ y) (a ∷ l)) e ns in to_way a l a p q f i.1 i.0)
 
 module _ {m : Meaning} (L : Lawful m) where
-  -- with a mark of the set off it, an outline is a round
+  -- with a mark of the set off it, an outline is a hull
   pub hull_beside : {s : ℕ → Type 0} {l : List ℕ} {x : ℕ} → Outline m s l → s x → (On l x → ⊥) → Hull m s l
   hull_beside {l = l} {x = x} o h n = let i = three_or_more L o h (off_all l x n) in to_hull L o (omega arith)
 

@@ -11,10 +11,14 @@ pub data Call : Type 0 where
   add drop place neighbours : ℕ → Call
   outline rounds : List ℕ → Call
 
+-- where a mark stands that was added: on the outline, or inside it
 pub data Side : Type 0 where
   edge inside : Side
 
--- an answer; a list is what the caller's list holds afterwards, and is empty where none was handed over
+-- an answer; a list is what the caller's list holds afterwards, and is empty where none was handed over.
+-- To an add: the side, and how many marks left the outline; to a drop: how many came onto it. To a place: `at` a position on the ring, or
+-- `within` the two marks of a fan triangle. To neighbours: `beside` the mark before and the mark after. To outline and rounds: `wrote`,
+-- with the length of the ring or the number of rounds. To any call: `declined`, with the refusal
 pub data Answer : Type 0 where
   added : Side → ℕ → Answer
   dropped : ℕ → Answer
@@ -38,12 +42,13 @@ pub record OneMore (s : ℕ → Bool) (x : ℕ) (t : ℕ → Bool) : Type 0 wher
   pub was : T (s x) → ⊥
   pub others : (p : ℕ) → p ≢ x → s p ≡ t p
 
--- how many marks of the second list are not on the first
+-- how many marks of the second list are not on the first, which is l
 pub data Lacking (l : List ℕ) : List ℕ → ℕ → Type 0 where
   none : Lacking l [] 0
   there : {a : ℕ} {k : List ℕ} {n : ℕ} → On l a → Lacking l k n → Lacking l (a ∷ k) n
   gone : {a : ℕ} {k : List ℕ} {n : ℕ} → (On l a → ⊥) → Lacking l k n → Lacking l (a ∷ k) (suc n)
 
+-- x stands on the ring, or does not, as the side says
 abbrev pub Stands : List ℕ → ℕ → Side → Type 0
 Stands ring x edge = On ring x
 Stands ring x inside = On ring x → ⊥
@@ -57,7 +62,7 @@ pub data Peeled (m : Meaning) : (ℕ → Bool) → ℕ → ℕ → Type 0 where
   outer : {s : ℕ → Bool} {p : ℕ} {ring : List ℕ} → RingOf m s ring → On ring p → Peeled m s 1 p
   inner : {s t : ℕ → Bool} {k p : ℕ} {ring : List ℕ} → RingOf m s ring → ((q : ℕ) → T (t q) ↔ (T (s q) × (On ring q → ⊥))) → Peeled m t k p → Peeled m s (suc k) p
 
--- the entry of each mark is its round, or 0 if it is not in; n is the number of rounds
+-- the entry of each mark is its round, the number of the outline that it is on, or 0 if it is not in; n is the number of rounds
 pub record Rounds (m : Meaning) (s : ℕ → Bool) (entries : List ℕ) (n : ℕ) : Type 0 where
   pub all : length entries ≡ m.count
   pub held : (p : ℕ) → p < m.count → T (s p) → Peeled m s (slice_index entries p) p
@@ -65,20 +70,20 @@ pub record Rounds (m : Meaning) (s : ℕ → Bool) (entries : List ℕ) (n : ℕ
   pub most : (p : ℕ) → p < m.count → slice_index entries p ≤ n
   pub last : (n ≡ 0) ⊎ ((p : ℕ) × (p < m.count) × (slice_index entries p ≡ n))
 
--- the call asks after x
+-- the call is about mark x
 pub data Asks : Call → ℕ → Type 0 where
   to_add : {x : ℕ} → Asks (add x) x
   to_drop : {x : ℕ} → Asks (drop x) x
   to_place : {x : ℕ} → Asks (place x) x
   to_neighbours : {x : ℕ} → Asks (neighbours x) x
 
--- it asks after a mark that has to be in
+-- the call is about mark x, which has to be in
 pub data NeedsIn : Call → ℕ → Type 0 where
   of_drop : {x : ℕ} → NeedsIn (drop x) x
   of_place : {x : ℕ} → NeedsIn (place x) x
   of_neighbours : {x : ℕ} → NeedsIn (neighbours x) x
 
--- the answer to a call
+-- the answer to a call, where m is the meaning of the system and s are the marks that are in
 pub data Answers (m : Meaning) (s : ℕ → Bool) : Call → Answer → Type 0 where
   adds : {x n : ℕ} {side : Side} {t : ℕ → Bool} {old new : List ℕ} → x < m.count → OneMore s x t → RingOf m s old → RingOf m t new → Stands new x side → Lacking new old n → Answers m s (add x) (added side n)
   drops : {x n : ℕ} {t : ℕ → Bool} {old new : List ℕ} → OneMore t x s → RingOf m s old → RingOf m t new → Lacking old new n → Answers m s (drop x) (dropped n)

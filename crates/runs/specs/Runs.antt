@@ -17,6 +17,7 @@ pub record History : Type 0 where
   pub calls : List Call
   pub answers : List Answer
 
+-- the i-th call of the history and its answer, counted from 0
 abbrev pub At : History → ℕ → Call → Answer → Type 0
 At h i call answer = (i < length h.calls) × (slice_index_or h.calls i (add 0) ≡ call) × (slice_index_or h.answers i (declined (Stranger 0) []) ≡ answer)
 
@@ -24,20 +25,20 @@ At h i call answer = (i < length h.calls) × (slice_index_or h.calls i (add 0) �
 abbrev pub Done : History → ℕ → Call → Type 0
 Done h i c = (a : Answer) × At h i c a × (Declined a → ⊥)
 
--- the first i calls
+-- the first i calls and their answers
 abbrev pub up_to : ℕ → History → History
 up_to i h = record { calls = first i h.calls; answers = first i h.answers }
 
--- p is in: from an add of it that was not declined until the next such drop
+-- p is in after the history: an add of it was not declined, and no drop of it after that was not declined
 abbrev pub In : History → ℕ → Type 0
 In h p = (i : ℕ) × Done h i (add p) × ((j : ℕ) → i < j → Done h j (drop p) → ⊥)
 
--- s has the marks that are in
+-- s has exactly the marks that are in after the history
 abbrev pub HasIn : History → (ℕ → Bool) → Type 0
 HasIn h s = (p : ℕ) → T (s p) ↔ In h p
 
--- a. every answer is the defined one for the marks then in; the outline is one ring, and it holds exactly the arcs; each mark in and off it
--- lies in just one fan triangle
+-- a. every answer is the defined one for the marks then in; the outline is one ring, whose pairs are exactly the arcs; each mark that is in
+-- and off the outline lies in just one fan triangle
 pub record AsDefined (m : Meaning) (h : History) : Type 0 where
   pub answered : length h.answers ≡ length h.calls
   pub right : (i : ℕ) (c : Call) (a : Answer) (s : ℕ → Bool) → At h i c a → HasIn (up_to i h) s → Answers m s c a
@@ -49,14 +50,14 @@ pub record Agree (m m' : Meaning) (s : ℕ → Bool) : Type 0 where
   pub count : m.count ≡ m'.count
   pub turns : (p q r : ℕ) → T (s p) → T (s q) → T (s r) → Left m p q r ↔ Left m' p q r
 
--- the questions that compare two hulls
+-- the calls that change nothing, called questions: what two hulls are compared by
 pub data Question : Call → Type 0 where
   place? : {x : ℕ} → Question (place x)
   neighbours? : {x : ℕ} → Question (neighbours x)
   outline? : {l : List ℕ} → Question (outline l)
   rounds? : {l : List ℕ} → Question (rounds l)
 
--- b. the same marks and the same turns of them, the same answers, refusals and lists
+-- b. where the same marks are in and the two systems agree, the defined answers to a question are the same, with refusals and lists
 abbrev pub SameAnswers : Meaning → History → Meaning → History → Type 0
 SameAnswers m h m' h' =
     (s : ℕ → Bool) (c : Call) (a a' : Answer) → HasIn h s → HasIn h' s → Agree m m' s → Question c → Answers m s c a → Answers m' s c a' → a ≡ a'
@@ -91,10 +92,11 @@ JustOneAnswer =
 abbrev pub SomeRun : Type 0
 SomeRun = (m : Meaning) (calls : List Call) → Lawful m → (answers : List Answer) × AsDefined m (record { calls = calls; answers = answers })
 
--- right answers are enough for the rest of a., and for b. and c.
+-- every answer is the defined one for the marks then in
 abbrev pub Right : Meaning → History → Type 0
 Right m h = (i : ℕ) (c : Call) (a : Answer) (s : ℕ → Bool) → At h i c a → HasIn (up_to i h) s → Answers m s c a
 
+-- this is enough for the rest of a., and for b. and c.
 abbrev pub RightIsEnough : Type 0
 RightIsEnough =
     (m m' : Meaning) (h h' : History) → Lawful m → Lawful m' → length h.answers ≡ length h.calls → length h'.answers ≡ length h'.calls

@@ -1,4 +1,4 @@
--- A table has one fault only, and is accepted exactly where it is lawful.
+-- A table is judged in one way only, and is accepted exactly where it is lawful.
 use Rattle.std.proofs.Common.{◌≡◌, ℕ, T, ◌↔◌, List, [], ◌∷◌, map, Some, None, Option, refl, ap, subst, arith}
 use Rattle.cc.specs.declared.Turn.{Turn}
 use Rattle.cc.specs.declared.faults.Fault.{Fault}

@@ -1,4 +1,5 @@
--- Nested loops over the groups of k rising marks, of all places: each loop has passed the groups before the marks at which the loops stand.
+-- Nested loops over the groups of k rising marks, one loop for each mark: each loop has passed the groups before the marks at which it and
+-- the loops around it stand.
 use Rattle.std.proofs.Common.{◌≡◌, ℕ, ◌+◌, ◌<◌, ◌≤◌, ◌⊎◌, List, [], ◌∷◌, ◌++◌, length, refl, sym, subst, ap₂, inl, inr, arith}
 use native.Mathlib.Decide.{ℕ_discrete}
 use Rattle.laws.specs.Systems.{Meaning}
@@ -8,7 +9,7 @@ before_none : (ys : List ℕ) → Before ys [] → ⊥
 before_none [] h = h
 before_none (y ∷ ys) h = h
 
--- no rising list that begins so far alike comes between a and a, a + 1
+-- a rising list before (xs, a, a + 1) is before (xs, a)
 entered : (xs ys : List ℕ) (a : ℕ) → Rising ys → Before ys (xs ++ (a ∷ (a + 1) ∷ [])) → Before ys (xs ++ (a ∷ []))
 entered [] [] a r h = absurd h
 entered [] (y ∷ ys) a r (inl h) = inl h
@@ -19,7 +20,7 @@ entered (x ∷ xs) [] a r h = absurd h
 entered (x ∷ xs) (y ∷ ys) a r (inl h) = inl h
 entered (x ∷ xs) (y ∷ ys) a r (inr (e, h)) = inr (e, entered xs ys a r.1 h)
 
--- of longer lists below n, none comes between a, n and a + 1
+-- a longer list of marks below n that is before (xs, a + 1) is before (xs, a, n)
 done : (xs ys : List ℕ) (a n : ℕ) → length xs + 1 < length ys → Below n ys → Before ys (xs ++ ((a + 1) ∷ [])) → Before ys (xs ++ (a ∷ n ∷ []))
 done xs [] a n long b h = absurd (omega arith)
 done [] (y ∷ []) a n long b h = absurd (omega arith)
@@ -32,7 +33,7 @@ done [] (y ∷ z ∷ ys) a n long b (inr (e, h)) = absurd h
 done (x ∷ xs) (y ∷ ys) a n long b (inl h) = inl h
 done (x ∷ xs) (y ∷ ys) a n long b (inr (e, h)) = inr (e, done xs ys a n (omega arith) (λ z i. b z (inr i)) h)
 
--- of lists as long, only the one that ends at a comes between a and a + 1
+-- a list as long as (xs, a) that is before (xs, a + 1) is before (xs, a), or is that list
 next : (xs ys : List ℕ) (a : ℕ) → length ys ≡ length xs + 1 → Before ys (xs ++ ((a + 1) ∷ [])) → Before ys (xs ++ (a ∷ [])) ⊎ (ys ≡ xs ++ (a ∷ []))
 next xs [] a long h = absurd (omega arith)
 next [] (y ∷ z ∷ ys) a long h = absurd (omega arith)

@@ -1,4 +1,4 @@
--- A network has one fault only, and is accepted exactly where it is one.
+-- A list of crossings is judged in one way only, and is accepted exactly where it is a network.
 use Rattle.std.proofs.Common.{◌≡◌, ℕ, zero, suc, ◌<◌, ◌≤◌, ◌↔◌, List, [], ◌∷◌, length, Some, None, Option, refl, ap, subst, arith, lit≤}
 use native.Mathlib.Decide.{dec_lt}
 use Rattle.cc.specs.declared.faults.Fault.{Fault}
@@ -6,7 +6,7 @@ use Rattle.cc.specs.declared.faults.Fault.TheVariants.{Outsize, Recrossed}
 use Rattle.models.specs.Networks.{InRange, Legal, Network}
 use Rattle.systems.specs.Networks.{FirstWithout, Judged, accepted, outsize, miscounted, beyond, recrossed, OneJudgement, ThreeWires}
 
--- the first entry without is one only, and there is none where all entries have it
+-- at most one entry is the first without a property, and none is where all entries have it
 same_first : (P : ℕ → Type 0) (n t t' : ℕ) → FirstWithout P n t → FirstWithout P n t' → t ≡ t'
 same_first P n t t' x y =
     elim (dec_lt t t') [

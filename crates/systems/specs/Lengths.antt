@@ -1,4 +1,4 @@
--- A list that is not as long as its count asks.
+-- A count that is beyond its limit, and a list that is not as long as its count asks.
 use Rattle.std.specs.Prelude.{ℕ, ◌<◌, ◌≤◌, ◌≢◌}
 use Rattle.cc.specs.declared.faults.Fault.{Fault}
 use Rattle.cc.specs.declared.faults.Fault.TheVariants.{Outsize, Miscounted}

@@ -6,13 +6,13 @@ use Rattle.laws.specs.Systems.{Left, Right}
 use Rattle.models.specs.Threes.{pairs_of}
 use Rattle.models.specs.Networks.{InRange, Legal, Network, crossing, network}
 
--- t is the first entry of a list of which P does not hold
+-- t is the first entry, of a list of this length, for which P does not hold
 pub record FirstWithout (P : ℕ → Type 0) (length t : ℕ) : Type 0 where
   pub within : t < length
   pub fails : P t → ⊥
   pub before : (s : ℕ) → s < t → P s
 
--- the fault of a network, none where it is accepted; each fault has that none before it fits
+-- the fault of a network, none where it is accepted; a fault is given only where none of those before it fits
 pub data Judged (n : ℕ) (cs : List ℕ) : Option Fault → Type 0 where
   accepted : n ≤ 32 → Network n cs → Judged n cs None
   outsize : 32 < n → Judged n cs (Some (Outsize 32))
@@ -25,7 +25,7 @@ pub data Judged (n : ℕ) (cs : List ℕ) : Option Fault → Type 0 where
 abbrev pub Timed : ℕ → List ℕ → List (List ℕ) → Type 0
 Timed n cs times = (i j : ℕ) → i < j → j < n → slice_index (slice_index_or times i []) j ≡ crossing cs i j
 
--- a network has one fault only, or none
+-- each list of crossings is judged in one way, and in no other
 abbrev pub OneJudgement : Type 0
 OneJudgement = (n : ℕ) (cs : List ℕ) (f f' : Option Fault) → Judged n cs f → Judged n cs f' → f ≡ f'
 

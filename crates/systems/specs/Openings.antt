@@ -1,4 +1,4 @@
--- What is judged where a list is opened as a system.
+-- How a list of places is judged that is opened as a system of points, and a star about one of them.
 use Rattle.std.specs.Prelude.{◌≡◌, ℕ, ◌<◌, ◌≤◌, List, [], length, Some, None, Option}
 use Rattle.cc.specs.declared.faults.Fault.{Fault}
 use Rattle.cc.specs.declared.faults.Fault.TheVariants.{Torn, Outsize, Miscounted, Twin, Straight, Circled, Recrossed, LawlessFour, LawlessFive, Stranger, AlreadyIn, Absent, Misnamed, Tight, OffTheEdge}
@@ -7,7 +7,7 @@ use Rattle.laws.specs.First.{First, FirstPair, FirstTriple, NeverPair, NeverTrip
 use Rattle.models.specs.Places.{AllNear, Far, Twins, InLine, Good}
 use Rattle.models.specs.Stars.{OnCircle}
 
--- a list of places is too long, and the limit tells it, or it has an entry out of range, the first of them
+-- a list of places is too long, and `at` is the limit; or it is not, and `at` is its first entry out of range
 pub record Outsized (ps : List Place) (at : ℕ) : Type 0 where
   pub long : 128 < length ps → at ≡ 128
   pub far : length ps ≤ 128 → First (length ps) (Far ps) at
@@ -31,12 +31,12 @@ Refused ps (Misnamed _) = ⊥
 Refused ps (Tight _) = ⊥
 Refused ps (OffTheEdge _) = ⊥
 
--- the list is accepted, and good, or refused for the fault
+-- the list is good, and accepted, or it is refused for the fault
 abbrev pub Judged : List Place → Option Fault → Type 0
 Judged ps None = Good ps
 Judged ps (Some f) = Refused ps f
 
--- the list that is held: none of it where it is refused
+-- the list that is held: nothing of it where it is refused
 abbrev pub held : {E : Type 0} → Option Fault → List E → List E
 held None es = es
 held (Some _) es = []
@@ -45,7 +45,8 @@ held (Some _) es = []
 abbrev pub OneJudgement : Type 0
 OneJudgement = (ps : List Place) (f g : Option Fault) → Judged ps f → Judged ps g → f ≡ g
 
--- why the star about mark c of the points ps is refused: c is no mark, or three other points lie on one circle with it, the first in rising order
+-- why the star about mark c of the points ps is refused: c is no mark, or three other points lie on one circle with it, of which the first
+-- in rising order are named
 abbrev pub StarRefused : List Place → ℕ → Fault → Type 0
 StarRefused ps c (Stranger m) = (m ≡ c) × (length ps ≤ c)
 StarRefused ps c (Circled i j k) = (c < length ps) × FirstTriple (length ps) (OnCircle ps c) i j k

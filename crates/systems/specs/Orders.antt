@@ -5,6 +5,7 @@ use Rattle.cc.specs.declared.Turn.TheVariants.{Left as to-left, Right as to-righ
 use Rattle.laws.specs.Systems.{Three}
 use Rattle.models.specs.Spread.{Turns, spread}
 
+-- whether a turn is left
 abbrev pub is_left : Turn → Bool
 is_left to-left = true
 is_left to-right = false

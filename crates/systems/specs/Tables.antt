@@ -12,12 +12,12 @@ use Rattle.systems.specs.Orders.{is_left}
 abbrev pub turn_table : ℕ → List Turn → Meaning
 turn_table n turns = table n (map is_left turns)
 
--- a count within its limit, and a list of one turn for each three
+-- the count is within its limit, and the list has one turn for each three
 pub record Fits (n : ℕ) (turns : List Turn) : Type 0 where
   pub few : n ≤ 24
   pub long : length turns ≡ threes_of n
 
--- the fault of a table, none where it is accepted; each fault has that none before it fits
+-- the fault of a table, none where it is accepted; a fault is given only where none of those before it fits
 pub data Judged (n : ℕ) (turns : List Turn) : Option Fault → Type 0 where
   accepted : Fits n turns → Lawful (turn_table n turns) → Judged n turns None
   outsize : 24 < n → Judged n turns (Some (Outsize 24))
@@ -27,11 +27,12 @@ pub data Judged (n : ℕ) (turns : List Turn) : Option Fault → Type 0 where
   lawless_five : {a b c d e : ℕ} → Fits n turns → AllLawful 4 (turn_table n turns) →
       FirstLawless 5 (turn_table n turns) (a ∷ b ∷ c ∷ d ∷ e ∷ []) → Judged n turns (Some (LawlessFive a b c d e))
 
--- a table has one fault only, or none
+-- each list of turns is judged in one way, and in no other
 abbrev pub OneJudgement : Type 0
 OneJudgement = (n : ℕ) (turns : List Turn) (f f' : Option Fault) → Judged n turns f → Judged n turns f' → f ≡ f'
 
--- the threes stand in rising order: each has its entry in a list of n (n - 1) (n - 2) / 6, and of two threes the one before has the smaller
+-- the threes stand in rising order: each has its entry in a list of n (n - 1) (n - 2) / 6, and of two threes the one that comes before the
+-- other has the smaller entry
 abbrev pub EntriesRise : Type 0
 EntriesRise =
     (n i j k i' j' k' : ℕ) → n ≤ 24 → i < j → j < k → k < n → i' < j' → j' < k' → k' < n →

@@ -22,7 +22,7 @@ pub(crate) fn outside(places: &[Place]) -> Option<usize>
 pub(crate) fn twins(places: &[Place]) -> Option<(usize, usize)>
     ensures first { MatchOption result (NeverPair (length places.now) (Twins places.now)) (λ p. FirstPair (length places.now) (Twins places.now) p.0 p.1) }
 {
-    // stays nested loops: the numbers are what is sought, and `find_map` over `find` is no plainer
+    // stays nested loops: two numbers are sought, and `find_map` with a `find` inside is no plainer
     for i in 0..places.len() {
         for j in i + 1..places.len() {
             if places[i] == places[j] {
@@ -56,8 +56,9 @@ impl Offset {
 }
 
 // Twice the signed area of the triangle p q r.
-// stay clauses, here, at `between`, `to` and `star_determinant`, and for a tape's step: the places come out of a list of which one fact says that all are near,
-// and a type for a near place would be made anew at each read
+// That the places are in range stays a `requires`, here, at `between`, `to` and `star_determinant`, and at the step of a tape in
+// `sections`: they come out of a list of which one fact says that all are in range, and a type for a place in range would be made anew at
+// each read.
 pub(crate) fn determinant(p: Place, q: Place, r: Place) -> i64
     requires p { Near p }
     requires q { Near q }

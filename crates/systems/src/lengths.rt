@@ -1,4 +1,4 @@
-//! Whether a list is as long as its count asks.
+//! Whether a count is within its limit, and a list as long as the count asks.
 
 ghost use Rattle.std.specs.Prelude.{◌≡◌, ◌≤◌, MatchResult};
 ghost use Rattle.systems.specs.Lengths.{Misfit};

@@ -16,7 +16,8 @@ mod tests;
 
 ghost use Rattle.systems.specs.Openings.{OneJudgement, OneStarJudgement};
 
-// What an opener answers is the only answer that its contract leaves.
+// The contracts of `Points::open` and `Star::about` leave one answer only. `networks_stand` and `tables_stand` say so of the other two
+// openers.
 pub fn openings_stand()
     ensures points { OneJudgement }
     ensures stars { OneStarJudgement }

@@ -33,7 +33,7 @@ struct Crossings<'a> {
 }
 
 impl<'a> Crossings<'a> {
-    // The crossings of so many wires, if the list has the length for it.
+    // The crossings of so many wires, if these are within the limit and the list has the length that is due; or else the fault.
     fn of(count: usize, list: &'a [usize]) -> Result<Crossings<'a>, Fault>
         ensures fits { MatchResult result (λ c. (c.count ≡ count) × (c.list.now ≡ list.now)) (λ f. Judged count list.now (Some f)) }
     {
@@ -41,7 +41,7 @@ impl<'a> Crossings<'a> {
         Ok(Crossings { count, list })
     }
 
-    // Whether each crossing has both its places among the wires.
+    // Whether each crossing has both its places among the wires; if not, the fault names the first that has not.
     fn check_range(&self) -> Result<(), Fault>
         ensures in_range { MatchResult result (λ _. (t : ℕ) → t < length self.now.list.now → InRange self.now.count self.now.list.now t) (λ fault. Judged self.now.count self.now.list.now (Some fault)) }
     {
@@ -80,7 +80,7 @@ pub struct ReflectionNetwork<'a> {
     crossings: Crossings<'a>,
     // the entry at which wires i < j cross, in row i at j
     times: [[u16; WIRES]; WIRES],
-    // stays beside what is held: a `Result` of the rest would be taken apart by each method, and by what is known of the crossings
+    // stays a field beside the others: one `Result` of them all would be taken apart by each method, and by the facts below
     fault: Option<Fault>,
     ghost legal: { (t : ℕ) → t < length crossings.list.now → upper crossings.list.now t < lower crossings.list.now t },
     ghost timed: { (i j : ℕ) → i < j → j < crossings.count → T (slice_index (slice_index_or times i []) j == crossing crossings.list.now i j) },
@@ -88,8 +88,9 @@ pub struct ReflectionNetwork<'a> {
 
 impl<'a> ReflectionNetwork<'a> {
     // The network of the crossings, after a check of all of them. A refused network has no wires and tells its fault.
-    // Stays beside the table's `open`, and `Crossings` beside `Turns`: of one for both the empty system and the bounds would be asked of a
-    // trait; and so do `Points::open` and `Star::about`, for what they hold.
+    // It stays a function of its own beside `TurnTable::open`, and `Crossings` a type of its own beside the table's `Turns`: one for both
+    // would need a trait that gives the empty system and the bounds. `Points::open` and `Star::about` stay two in the same way, since they
+    // hold different things.
     pub fn open(count: usize, crossings: &'a [usize]) -> ReflectionNetwork<'a>
         ensures judged { Judged count crossings.now result.fault }
         ensures network { (result.fault ≡ None) ↔ ((count ≤ 32) × Network count crossings.now) }
@@ -109,7 +110,7 @@ impl<'a> ReflectionNetwork<'a> {
         }
     }
 
-    // The network of the crossings, or why they are none.
+    // The network of the crossings, or the first fault if they are none.
     fn of(count: usize, list: &'a [usize]) -> Result<ReflectionNetwork<'a>, Fault>
         ensures judged { MatchResult result (λ w. Judged count list.now None × (w.fault ≡ None) × (w.crossings.count ≡ count) × (w.crossings.list.now ≡ list.now)) (λ fault. Judged count list.now (Some fault)) }
     {
@@ -149,7 +150,8 @@ impl<'a> CcSystem for ReflectionNetwork<'a> {
     }
 }
 
-// The contract of the opener leaves one answer only, as in the examples.
+// The theory of opened networks: the contract of the opener leaves one answer only; and what it says of three lists of crossings of three
+// wires, as examples.
 pub fn networks_stand()
     ensures one { OneJudgement }
     ensures examples { ThreeWires }

@@ -12,7 +12,7 @@ pub struct Order {
     pub low: usize,
     pub mid: usize,
     pub high: usize,
-    // stays a flag: it answers one question, and `turn` compares it with the answer to another
+    // stays a flag: it answers one question, whether the turn is the same, and `turn` compares it with the answer to another
     pub same: bool,
 }
 
@@ -26,7 +26,7 @@ impl Order {
 }
 
 // How marks turn, from whether they turn left.
-// stays a function: `Turn::from(true)` would not say which way
+// It stays a function: `Turn::from(true)` would not say which way.
 pub(crate) fn turned(left: bool) -> Turn
     ensures turned { is_left result ≡ left }
 {
@@ -44,7 +44,7 @@ pub(crate) fn are_three(n: usize, p: usize, q: usize, r: usize) -> bool
 pub fn in_order(n: usize, p: usize, q: usize, r: usize) -> Option<Order>
     ensures ordered { MatchOption result (Three n p q r → ⊥) (λ t. Ordered n p q r t.low t.mid t.high t.same) }
 {
-    // stays an `if` that returns, here and in the systems' `turn`: `then` was tried, and the proof did not close
+    // stays an `if` that returns, here and in the `turn` of points and stars: with `then` the proof does not close
     if !are_three(n, p, q, r) {
         return None;
     }
@@ -52,7 +52,7 @@ pub fn in_order(n: usize, p: usize, q: usize, r: usize) -> Option<Order>
 }
 
 // The marks in rising order.
-// stays a tree of questions: a sort of the three would lose whether they turn as they did
+// It stays a tree of questions: a sort of the three would lose whether they turn as they did.
 fn sorted(n: usize, p: usize, q: usize, r: usize) -> Order
     requires { Three n p q r }
     ensures ordered { Ordered n p q r result.low result.mid result.high result.same }

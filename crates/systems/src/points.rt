@@ -20,7 +20,7 @@ use models::places::Place;
 #[derive(Clone, Copy)]
 pub struct Points<'a> {
     places: &'a [Place],
-    // stays beside what is held: a `Result` of the places would be taken apart by each method, and by what is known of them
+    // stays a field beside the places: one `Result` of the two would be taken apart by each method, and by the fact below
     fault: Option<Fault>,
     ghost good: { ∥ Good places.now ∥₁ },
 }

@@ -4,7 +4,7 @@ ghost use Rattle.std.specs.Prelude.{◌≡◌, ℕ, ◌<◌, MatchBool, MatchOpt
 ghost use Rattle.laws.specs.First.{FirstTriple, NeverTriple};
 
 // A property of three rising numbers below a count, which can be tested.
-// Stays a trait: what is tested and the test of it stand together once; for a closure both would be written out at each search.
+// It stays a trait: what is tested and the test of it stand together once; for a closure both would be written out at each search.
 pub(crate) trait OfThree {
     ghost below: { Self → ℕ };
 

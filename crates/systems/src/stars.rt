@@ -16,20 +16,20 @@ use cc::faults::Fault;
 use cc::{CcSystem, Turn};
 use models::places::Place;
 
-// The star about a mark of a points system: every other point, as seen from that one.
-// Three of its marks turn left where the third lies outside of the circle through the centre and the other two, if these turn left about the centre.
+// The star about a mark of a points system: every other point, as seen from that one, the centre. If the centre and two of its marks turn
+// left, then these two and a third turn left where the third lies outside of the circle through the centre and the two.
 // Refused, it holds no place, so it has no mark, and tells why.
 #[derive(Clone, Copy)]
 pub struct Star<'a> {
     places: &'a [Place],
     centre: usize,
-    // stays beside what is held: a `Result` of the places would be taken apart by each method, and by what is known of them
+    // stays a field beside the others: one `Result` of them all would be taken apart by each method, and by the fact below
     fault: Option<Fault>,
     ghost clear: { ∥ Clear places.now centre ∥₁ },
 }
 
 impl<'a> Star<'a> {
-    // The star about c, which is a mark of the points, and on no circle with three of the others.
+    // The star about c: accepted where c is a mark of the points, and on no circle with three of the others.
     pub fn about(points: &Points<'a>, c: usize) -> Star<'a>
         ensures judged { StarJudged points.now.places.now c result.fault }
         ensures list { result.places.now ≡ held result.fault points.now.places.now }
@@ -60,6 +60,7 @@ impl<'a> Star<'a> {
         Some(self.point_of(mark))
     }
 
+    // The same, of a mark of the star.
     fn point_of(&self, mark: usize) -> usize
         requires { mark < length self.now.places.now - 1 }
         ensures meant { result ≡ other self.now.centre mark }

@@ -45,7 +45,7 @@ struct Turns<'a> {
 }
 
 impl<'a> Turns<'a> {
-    // The turns of so many marks, if the list has the length for it.
+    // The turns of so many marks, if these are within the limit and the list has the length that is due; or else the fault.
     fn of(count: usize, list: &'a [Turn]) -> Result<Turns<'a>, Fault>
         ensures fits { MatchResult result (λ t. (t.count ≡ count) × (t.list.now ≡ list.now)) (λ f. Judged count list.now (Some f)) }
     {
@@ -91,13 +91,13 @@ impl<'a> Turns<'a> {
         before(self.is_left(a, b, c), abd)
     }
 
-    // Whether all rising fours keep law 4.
+    // Whether all rising fours keep law 4, and so both laws: law 5 is of five marks. If not, the fault names the first four that do not.
     fn check_fours(&self) -> Result<(), Fault>
         ensures fours { MatchResult result (λ _. AllLawful 4 (turn_table self.now.count self.now.list.now)) (λ fault. Judged self.now.count self.now.list.now (Some fault)) }
     {
         let n = self.count;
-        // stays nested loops, beside those of `check_fives`: a search that serves any number of marks would step through the groups by hand,
-        // and the kit's `combinations` allocates
+        // stays nested loops, beside those of `check_fives`: one search for groups of any size would step through the groups by hand, and
+        // the kit's `combinations` allocates
         for a in 0..n {
             for b in a + 1..n {
                 for c in b + 1..n {
@@ -112,7 +112,7 @@ impl<'a> Turns<'a> {
         Ok(())
     }
 
-    // Whether all rising fives keep laws 4 and 5, and so the table all laws.
+    // Whether all rising fives keep laws 4 and 5, and so the table all laws. If not, the fault names the first five that do not.
     fn check_fives(&self) -> Result<(), Fault>
         requires fours { AllLawful 4 (turn_table self.now.count self.now.list.now) }
         ensures judged { MatchResult result (λ _. Judged self.now.count self.now.list.now None) (λ fault. Judged self.now.count self.now.list.now (Some fault)) }
@@ -140,7 +140,7 @@ impl<'a> Turns<'a> {
 #[derive(Clone, Copy)]
 pub struct TurnTable<'a> {
     turns: Turns<'a>,
-    // stays beside what is held: a `Result` of the turns would be taken apart by each method, and by what is known of them
+    // stays a field beside the turns: one `Result` of the two would be taken apart by each method, and by the fact below
     fault: Option<Fault>,
     // the table passes the test of laws 4 and 5
     ghost kept: { T (keeps turns.count (spread (table_turns turns.count (map is_left turns.list.now)))) },
