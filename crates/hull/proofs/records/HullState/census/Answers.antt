@@ -21,6 +21,8 @@ returns c =
       census = record {
         low = λ k h. ap (λ w. bit w k) low ∙ word_bit f 0 64 k h ∙ ap f (zero-add k);
         high = λ k h. ap (λ w. bit w k) high ∙ word_bit f 64 64 k h;
+        low_fits = c.word-low.type_inv;
+        high_fits = c.high_word-high.type_inv;
         size = ap₂ (λ x y. x + y) (ap ones low ∙ word_ones f 0 64) (ap ones high ∙ word_ones f 64 64) ∙ how_many_both f 0 64 64;
         ones = refl;
       };
