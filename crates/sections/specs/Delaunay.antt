@@ -42,7 +42,7 @@ abbrev pub StarAnswer : List Place → ℕ → List (ℕ × ℕ) → List (ℕ �
 StarAnswer ps c before later (Ok n) = StarWritten ps c n before later
 StarAnswer ps c before later (Err f) = StarDeclined ps c (length before) f × (later ≡ before)
 
--- p is one of all the marks of the system
+-- p is a mark of the system: so this is the set of all its marks
 abbrev pub AllOf : Meaning → ℕ → Type 0
 AllOf m p = p < m.count
 

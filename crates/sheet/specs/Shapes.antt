@@ -51,7 +51,7 @@ Parted (mark x y) = Lacks 9 x
 Parted (crossing place) = Unit {0}
 Parted (turning i j k turn) = Lacks 9 i × Lacks 9 j × Lacks 9 k
 
--- a line that the code holds, as one of these
+-- the shape of a `Line` of the code
 abbrev pub shape : Line → Shape
 shape (line.Head kind count) = head kind count.now
 shape (line.Mark x y) = mark x.now y.now

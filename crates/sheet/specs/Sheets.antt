@@ -107,7 +107,7 @@ pub record Lists : Type 0 where
   pub crossings : List ℕ
   pub turns : List Turn
 
--- the same, from its three parts
+-- three lists as the caller's
 abbrev pub lists : List Place → List ℕ → List Turn → Lists
 lists ps cs ts = record { places = ps; crossings = cs; turns = ts }
 

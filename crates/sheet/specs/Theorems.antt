@@ -79,6 +79,6 @@ pub record Listed (n : ℕ) : Type 0 where
   pub rising : (at later : ℕ) → at < later → later < due Table n → Before (triple_at n at) (triple_at n later)
   pub all : (t : Triple) → Below n t → (at : ℕ) × (at < due Table n) × (triple_at n at ≡ t)
 
--- so it is for every table in range
+-- the triples of every table in range are listed so
 abbrev pub AllTriples : Type 0
 AllTriples = (n : ℕ) → n ≤ limit Table → Listed n

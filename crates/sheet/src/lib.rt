@@ -1,7 +1,7 @@
 //! The text format of the library's inputs, read exactly.
 //!
 //! A sheet tells a list of places, the crossings of a reflection network, or a table of turns (docs/SHEETS.md).
-//! What a sheet's text is stands in `specs/Sheets`; `read` gives back the one sheet that a text is, or says where the text stops being one.
+//! `specs/Sheets` says what the text of a sheet is; `read` gives back the one sheet that a text is, or says where it stops being one.
 
 #![tactic(auto)]
 
