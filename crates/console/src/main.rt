@@ -1,5 +1,5 @@
-//! `console SHEET [mirror | rename:a,b,c ...]`: opens the sheet, puts the layers over its system, and makes the calls that standard input asks
-//! for, one a line.
+//! `console SHEET [LAYER [LAYER]]`: opens the sheet in the file SHEET, puts the layers over its system, and makes the calls that standard
+//! input asks for, one a line. A layer is `mirror`, or `rename:` and marks parted by commas (docs/CONSOLE.md).
 
 #![tactic(auto)]
 

@@ -1,4 +1,4 @@
--- Each system that a sheet tells of keeps the laws.
+-- The system that a sheet is opened as keeps the laws. It is proved here, where `src/lib.rt` can cite it.
 use Rattle.std.specs.Prelude.{map}
 use Rattle.laws.specs.Systems.{Lawful}
 use Rattle.models.proofs.Plane.{lawful_plane}

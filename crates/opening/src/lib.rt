@@ -1,6 +1,6 @@
 //! A sheet opened as the system that it tells of.
 //!
-//! Whoever works on the marks of a sheet, whatever its kind, opens it here and goes on with one system.
+//! Whatever the kind of a sheet, its list is opened here as one type, which is a CC system.
 
 #![tactic(auto)]
 
@@ -54,7 +54,7 @@ impl<'a> Opened<'a> {
     }
 }
 
-// Reads a sheet into the room, and opens its list as a system. The fault is that of the text, or else that of the list.
+// Reads a sheet into the room, and opens its list as a system. The fault is that of the text, or, where that is a sheet, of the list.
 pub fn open<'a>(room: &'a mut Room, text: &[u8]) -> Result<Opened<'a>, Fault>
     ensures opened { MatchResult result (Opens text.now) (Refused text.now) }
 {

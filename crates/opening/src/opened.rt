@@ -1,10 +1,10 @@
-//! The systems that a sheet may tell of.
+//! The type of an opened sheet.
 
 use systems::networks::ReflectionNetwork;
 use systems::points::Points;
 use systems::tables::TurnTable;
 
-// A system that a sheet tells of.
+// The system that a sheet was opened as, by the kind of the sheet.
 #[derive(Clone, Copy)]
 pub enum Opened<'a> {
     Points(Points<'a>),

@@ -1,4 +1,4 @@
-//! Reads a sheet from standard input and prints its report.
+//! Reads a sheet from standard input and prints its report (docs/REPORT.md).
 
 #![tactic(auto)]
 

@@ -1,4 +1,4 @@
-//! Prints the reports of several sheets, each after its name.
+//! Prints the reports of several sheets, each after its name; the file `stdout` has what is expected.
 //!
 //! The sheets stand in the file `stdin`, a line each: a name, `|`, and the sheet, in which `>` stands for a tab and `/`
 //! for byte 10.
@@ -10,8 +10,8 @@ use std::alloc::Global;
 use std::io::Read;
 
 // The bytes of a sheet, from its line in the table.
-// stays here, though `sheet_cases` has one that knows `~` too: two programs share only libraries, and a library for eight lines is longer
-// than both
+// stays here, though `sheet_cases` has the same with a `~` as well: two programs can share only what a library has, and a library for these
+// eight lines would be longer than they are twice
 fn decoded(heap: Global, sheet: &str) -> anyhow::Result<Vec<u8>> {
     let mut text = Vec::new(heap);
     for b in sheet.bytes() {

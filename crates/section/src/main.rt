@@ -24,14 +24,15 @@ const SECTION: [Place; 5] = [
     Place { x: 1, y: 7 },
 ];
 
-// The places in a row lie on one line.
+// Three places on one line, which are refused as a system.
 const ROW: [Place; 3] = [
     Place { x: 0, y: 0 },
     Place { x: 1, y: 1 },
     Place { x: 2, y: 2 },
 ];
 
-// Adds the marks in rising order, drops one and adds it again, twice; then asks.
+// Adds the five marks in rising order, drops one, reads the outline, adds that mark again, and once more, which is refused; then asks where
+// another mark stands, and for the rounds, with a list that is too short.
 fn history(heap: Global, dropped: usize, asked: usize) -> Result<Vec<Call>, AllocError> {
     let mut calls = Vec::new(heap);
     for mark in 0..5 {
@@ -46,7 +47,7 @@ fn history(heap: Global, dropped: usize, asked: usize) -> Result<Vec<Call>, Allo
     Ok(calls)
 }
 
-// The turns of the section, of its mirror, and of the mirror under other names; and two refusals.
+// The turns of the section, of its mirror, and of the mirror under other names; and a list of places and a list of names that are refused.
 fn show_systems(rt: &HostRuntime) -> anyhow::Result<()> {
     let points = Points::open(&SECTION);
     show_turns(rt, "points", &points)?;
@@ -59,13 +60,13 @@ fn show_systems(rt: &HostRuntime) -> anyhow::Result<()> {
     show_verdict(rt, "renaming", misnamed.accepted())
 }
 
-// A place on a parabola, no three of whose places lie on one line.
+// The i-th of 129 places on a parabola; no three of them lie on one line.
 fn on_parabola(i: usize) -> Place {
     let x = i.min(128) as i32 - 64;
     Place { x, y: x * x }
 }
 
-// Whether the limits are kept: 10,000 is a coordinate and 10,001 is none, and 128 places are a system and 129 are none.
+// The limits: 10,000 is a coordinate and 10,001 is none; 128 places are a system and 129 are none.
 fn show_limits(rt: &HostRuntime) -> anyhow::Result<()> {
     let near = [Place {
         x: 10_000,
@@ -83,7 +84,8 @@ fn show_limits(rt: &HostRuntime) -> anyhow::Result<()> {
     show_verdict(rt, "129 marks", Points::open(&beyond).accepted())
 }
 
-// A history on the section, and the same on its mirror under other names: mark i of it is mark 4 - i of the section.
+// A history on the section, and another on its mirror under other names, where mark i is mark 4 - i of the section; then one question
+// to both.
 fn show_histories(rt: &HostRuntime) -> anyhow::Result<()> {
     let heap = rt.alloc();
     let points = Points::open(&SECTION);

@@ -8,7 +8,7 @@ use hull::histories::Reply;
 pub fn show_turns<S: CcSystem>(rt: &HostRuntime, name: &str, system: &S) -> anyhow::Result<()> {
     let n = system.count();
     println!(rt; "{name}\tcount\t{n}")?;
-    // stay nested loops: the marks themselves are shown
+    // stay nested loops: each line shows its three marks, and not only how they turn
     for p in 0..n {
         for q in p + 1..n {
             for r in q + 1..n {
@@ -22,7 +22,8 @@ pub fn show_turns<S: CcSystem>(rt: &HostRuntime, name: &str, system: &S) -> anyh
 }
 
 // A refusal, by its number and its five places.
-// stay this program's own, this and `word`: it shows the places that a refusal does not use, and names what a call wrote
+// stay this program's own, `show_fault` and `word`, beside the way in which a `Fault` and a `Reply` print: a `Fault` prints only the places
+// that it uses, and a `Reply` not which call it answers
 fn show_fault(rt: &HostRuntime, name: &str, fault: Fault) -> anyhow::Result<()> {
     let number = fault.number();
     let places = fault.places();
@@ -46,7 +47,7 @@ pub fn show_verdict(
     Ok(())
 }
 
-// What stands before a reply.
+// What is printed before a reply: the call, or for outline and rounds that the list was written into.
 fn word(reply: Reply) -> &'static str {
     match reply {
         Reply::Added(_) => "add",
@@ -57,7 +58,7 @@ fn word(reply: Reply) -> &'static str {
     }
 }
 
-// One answer of a history, with the list that goes with it.
+// One answer of a history; a list that was written into, or that goes with a refusal, is shown as the call left it.
 pub fn show_answer(
     rt: &HostRuntime,
     name: &str,

@@ -83,7 +83,7 @@ module _ (ps : List Place) (c : ℕ) (g : Good ps) (s : Starred ps c) where
       apart : i ≢ j
       apart e = d.turns.three.q≢r (ap (other c) e)
 
-  -- the marks of a pair
+  -- a pair, as an arc between the marks that mean its points
   pub facing : (p q : ℕ) → Delaunay ps c p q → FacingArc ps c p q
   facing p q d =
       let three = d.turns.three in

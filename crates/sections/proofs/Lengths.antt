@@ -53,7 +53,7 @@ step ps x = root (squared (place ps x.0) (place ps x.1))
 pub step_is : (ps : List Place) (x : ℕ × ℕ) → Root (squared (place ps x.0) (place ps x.1)) (step ps x)
 step_is ps x = root_is (squared (place ps x.0) (place ps x.1))
 
--- ---- the steps of a ring, by the ring and its rotation by one entry
+-- ---- the steps of a ring, taken from the ring beside its rotation by one entry
 
 turn_at : (r : ℕ) (rs : List ℕ) (k : ℕ) (x : ℕ × ℕ) → (k < length (zip (r ∷ rs) (rs ++ r ∷ []))) × (x ≡ get_or (zip (r ∷ rs) (rs ++ r ∷ [])) k x) → (k < length (r ∷ rs)) × (x.0 ≡ entry (r ∷ rs) k) × (x.1 ≡ follower (r ∷ rs) k)
 turn_at r rs k x (lt, is) =
@@ -77,7 +77,7 @@ step_at n (r ∷ rs) e k x h =
     let one : n ≡ 1 = omega arith in
     turn_at r rs k x (subst (λ n. (k < length (zip (r ∷ rs) (drop n (r ∷ rs) ++ take n (r ∷ rs)))) × (x ≡ get_or (zip (r ∷ rs) (drop n (r ∷ rs) ++ take n (r ∷ rs))) k x)) one h)
 
--- the ring beside its rotation
+-- the ring beside its rotation by n entries: each entry with its follower, where n is 1
 abbrev pub turns : List ℕ → ℕ → List (ℕ × ℕ)
 turns ring n = zip ring (drop n ring ++ take n ring)
 
@@ -99,13 +99,13 @@ taped ps ring n total one is =
       adds = is ∙ sym (sum-map (step ps) (turns ring n));
     }
 
--- the same as an iterator
+-- the same pairs, as the iterator of the code gives them
 pub ring_steps : (ring : List ℕ) (n : ℕ) {s : Zip (Iter ℕ) (Chain (Iter ℕ) (Iter ℕ))} → iter_rest (zip_first s) ≡ ring → iter_rest (chain_first (zip_second s)) ≡ drop n ring → iter_rest (chain_second (zip_second s)) ≡ take n ring → chain_first_done (zip_second s) ≡ false → chain_second_done (zip_second s) ≡ false
     → YieldsList (zips fronts (chain_steps fronts fronts)) (λ p. (p.0.now, p.1.now)) s (turns ring n)
 ring_steps ring n a b c d e =
     YieldsList-from_zip (YieldsList-from_slice ring a) (YieldsList-from_chain (YieldsList-from_slice (drop n ring) b) (YieldsList-from_slice (take n ring) c) d e)
 
--- each step is one from mark to mark, where every entry is a mark
+-- where every entry is a mark, each step goes from mark to mark
 pub marks_known : (ps : List Place) (ring : List ℕ) (n k : ℕ) (x : ℕ × ℕ) → n ≡ min (length ring) 1 → Never (length ring) (Strange ps ring) → (k < length (turns ring n)) × (x ≡ get_or (turns ring n) k x) → (x.0 < length ps) × (x.1 < length ps)
 marks_known ps ring n k x one none h =
     (subst (λ p. p < length ps) (sym at.1) (mark k at.0), subst (λ q. q < length ps) (sym at.2) (go (ltb (k + 1) (length ring)) refl))

@@ -10,14 +10,14 @@ use Rattle.models.proofs.StarLaws.{Other, under, past, other_is}
 use Rattle.systems.specs.Openings.{Starred}
 use Rattle.sections.specs.Delaunay.{Delaunay, pair, StarPairs, StarDeclined, StarAnswer, tight}
 
--- the pairs whose first point is below b
+-- the list has exactly the pairs whose first point is below b, in rising order
 pub record PairsBelow (ps : List Place) (c b : ℕ) (l : List (ℕ × ℕ)) : Type 0 where
   pub each : (k : ℕ) → k < length l → Delaunay ps c (pair l k).0 (pair l k).1
   pub low : (k : ℕ) → k < length l → (pair l k).0 < b
   pub all : (p q : ℕ) → p < b → Delaunay ps c p q → (k : ℕ) × (k < length l) × ((pair l k).0 ≡ p) × ((pair l k).1 ≡ q)
   pub rising : (j k : ℕ) → j < k → k < length l → (pair l j).0 < (pair l k).0
 
--- no other point lies between those of two marks in a row
+-- between the points that marks i and i + 1 mean stands none but c
 next_point : (c i p : ℕ) → p ≢ c → p < other c (i + 1) → p ≢ other c i → p < other c i
 next_point c i p d l e = from (other_is c i) (other_is c (i + 1)) l e
   where

@@ -1,4 +1,4 @@
--- An arc of all marks, from a test of each of them.
+-- An arc among all the marks, found by a test of each of them.
 use Rattle.std.proofs.Common.{◌≡◌, ℕ, ◌<◌, ◌≤◌, ◌≢◌, Bool, true, false, length, get_or, Some, None, Option, MatchBool, MatchOption, subst, arith}
 use Rattle.std.specs.List.{AllWithin, HoldsAt, range_with_len}
 use Rattle.std.proofs.lemmas.List.FromFn.{get_or-range_with_len, length-range_with_len}

@@ -15,6 +15,7 @@ pub record Root (d r : ℕ) : Type 0 where
 abbrev pub squared : Place → Place → ℕ
 squared p q = unsigned_abs (q.x -ℤ p.x) * unsigned_abs (q.x -ℤ p.x) + unsigned_abs (q.y -ℤ p.y) * unsigned_abs (q.y -ℤ p.y)
 
+-- the i-th entry of the ring
 abbrev pub entry : List ℕ → ℕ → ℕ
 entry ring i = slice_index ring i
 
@@ -22,7 +23,7 @@ entry ring i = slice_index ring i
 abbrev pub follower : List ℕ → ℕ → ℕ
 follower ring i = cond (nat_lt (i + 1) (length ring)) (entry ring (i + 1)) (entry ring 0)
 
--- the tape's length: for each entry and its follower the root of their squared distance, all added
+-- the tape's length: for each entry and its follower, the root of their squared distance, all of these added
 pub record Taped (ps : List Place) (ring : List ℕ) (total : ℕ) : Type 0 where
   pub steps : List ℕ
   pub one_each : length steps ≡ length ring
@@ -33,26 +34,28 @@ pub record Taped (ps : List Place) (ring : List ℕ) (total : ℕ) : Type 0 wher
 abbrev pub Strange : List Place → List ℕ → ℕ → Type 0
 Strange ps ring i = length ps ≤ entry ring i
 
--- the fault names the first entry that is no mark
+-- a ring has an entry that is no mark, and the fault names the first such entry
 pub record FirstStranger (ps : List Place) (ring : List ℕ) (f : Fault) : Type 0 where
   pub at : ℕ
   pub first : First (length ring) (Strange ps ring) at
   pub told : f ≡ Stranger (entry ring at)
 
--- why a ring is not taped: it has more than 128 entries, or else one that is no mark
+-- why a ring is not measured: it has more than 128 entries, or else one that is no mark
 pub record TapeRefused (ps : List Place) (ring : List ℕ) (f : Fault) : Type 0 where
   pub long : 128 < length ring → f ≡ Outsize 128
   pub strange : length ring ≤ 128 → FirstStranger ps ring f
 
+-- a ring is measured: it has at most 128 entries, all are marks, and the total is the length of its tape
 pub record TapeMeasured (ps : List Place) (ring : List ℕ) (total : ℕ) : Type 0 where
   pub few : length ring ≤ 128
   pub marks : Never (length ring) (Strange ps ring)
   pub taped : Taped ps ring total
 
+-- what `tape` answers: the length, or why there is none
 abbrev pub TapeAnswer : List Place → List ℕ → Result ℕ Fault → Type 0
 TapeAnswer ps ring (Ok total) = TapeMeasured ps ring total
 TapeAnswer ps ring (Err f) = TapeRefused ps ring f
 
--- a ring has one length, and is refused for one fault or none
+-- the contract of `tape` leaves one answer
 abbrev pub OneTapeAnswer : Type 0
 OneTapeAnswer = (ps : List Place) (ring : List ℕ) (r s : Result ℕ Fault) → TapeAnswer ps ring r → TapeAnswer ps ring s → r ≡ s

@@ -1,4 +1,4 @@
-//! Arcs of all marks of a system.
+//! Arcs among all the marks of a system.
 
 ghost use Rattle.std.specs.Prelude.{◌≡◌, ℕ, ◌<◌, MatchBool, MatchOption};
 ghost use Rattle.laws.specs.Systems.{Left};
@@ -14,7 +14,7 @@ pub(crate) fn turns_left<S: CcSystem>(system: &S, p: usize, q: usize, r: usize) 
     system.turn(p, q, r) == Some(Turn::Left)
 }
 
-// Whether every other mark is to the left of p and q.
+// Whether (p, q) is an arc: p and q differ, and every other mark is to the left of them.
 fn is_arc<S: CcSystem>(system: &S, p: usize, q: usize) -> bool
     requires from { p < (S.CcSystem.meaning system.now).count }
     requires to { q < (S.CcSystem.meaning system.now).count }
@@ -23,7 +23,7 @@ fn is_arc<S: CcSystem>(system: &S, p: usize, q: usize) -> bool
     p != q && (0..system.count()).all(|r| r == p || r == q || turns_left(system, p, q, r))
 }
 
-// The mark to which an arc leads from p.
+// The mark to which an arc leads from p, if one does.
 pub(crate) fn arc_from<S: CcSystem>(system: &S, p: usize) -> Option<usize>
     requires from { p < (S.CcSystem.meaning system.now).count }
     ensures arc { MatchOption result ((q : ℕ) → Arc (S.CcSystem.meaning system.now) (AllOf (S.CcSystem.meaning system.now)) p q → ⊥) (Arc (S.CcSystem.meaning system.now) (AllOf (S.CcSystem.meaning system.now)) p) }

@@ -36,7 +36,7 @@ impl<'a> Centre<'a> {
         })
     }
 
-    // The pair whose first point is the one that mark i of the star means.
+    // The pair whose first point is the one that mark i of the star means; none where that point is first in no pair.
     fn pair(&self, i: usize) -> Option<(usize, usize)>
         requires mark { i < length self.now.points.places.now - 1 }
         ensures pair { MatchOption result ((q : ℕ) → Delaunay self.now.points.places.now self.now.mark (other self.now.mark i) q → ⊥) (λ t. (t.0 ≡ other self.now.mark i) × Delaunay self.now.points.places.now self.now.mark t.0 t.1) }
@@ -51,7 +51,7 @@ impl<'a> Centre<'a> {
     fn pairs(&self) -> ArrayVec<(usize, usize), LIMIT>
         ensures pairs { StarPairs self.now.points.places.now self.now.mark result.items }
     {
-        // stays a loop: `collect` into an `ArrayVec` asks for an allocator, and `extend` answers a `Result` that would be taken apart
+        // stays a loop: `collect` into an `ArrayVec` asks for an allocator, and `extend` answers a `Result`, which would be taken apart
         let mut pairs = ArrayVec::new();
         for i in 0..self.star.count() {
             if let Some(pair) = self.pair(i) {
@@ -63,7 +63,7 @@ impl<'a> Centre<'a> {
 }
 
 // Writes the pairs (p, q) of the star about c at the front of the list, in rising p, and answers how many:
-// c, p and q turn left, and every other point lies outside of the circle through them.
+// c, p and q turn left, and every other point lies outside the circle through them.
 pub fn star(points: &Points<'_>, c: usize, pairs: &mut [(usize, usize)]) -> Result<usize, Fault>
     ensures answer { StarAnswer points.now.places.now c pairs.old pairs.new result }
 {

@@ -11,7 +11,7 @@ mod tests;
 ghost use Rattle.sections.specs.Delaunay.{StarIsFacingArcs, OnePairEach, OneStarAnswer};
 ghost use Rattle.sections.specs.Tapes.{OneTapeAnswer};
 
-// A star's pairs are the arcs of the star system that face its centre, each point has at most one,
+// The pairs of a star are the arcs of the star system that face its centre, each point is first in at most one pair,
 // and the contract of `star` leaves one answer only.
 pub fn stars_stand()
     ensures arcs { StarIsFacingArcs }

@@ -33,7 +33,7 @@ fn step_between(points: &Points<'_>, p: usize, q: usize) -> u64
     step(places[p], places[q])
 }
 
-// Every entry is a mark; the fault names the first that is none.
+// Whether every entry is a mark; the fault names the first entry that is none.
 fn check_marks(points: &Points<'_>, ring: &[usize]) -> Result<(), Fault>
     ensures first { MatchResult result (λ _. Never (length ring.now) (Strange points.now.places.now ring.now)) (FirstStranger points.now.places.now ring.now) }
 {

@@ -1,4 +1,4 @@
-//! Stars and tapes of the five points that the guide uses.
+//! Stars and tapes of the five points whose report stands in docs/REPORT.md.
 
 use super::delaunay::star;
 use super::tapes::tape;

@@ -42,13 +42,13 @@ module _ (greatest : ℕ) (wide : greatest < 2 ^ 64) (bs t : List ℕ) (is : t �
   read : OkIff r (Number bs) (digits_value 10 bs)
   read = parse_plain own 64 bs r (subst (λ t. ParsesUnsigned 64 10 t r) is parsed) plain.0
 
-  -- no number, for `parse`
+  -- where `parse` finds no number, the bytes write none up to `greatest`
   pub not_parsed : (o : Option ℕ) → o ≡ result_ok r → o ≡ None → (v : ℕ) → v ≤ greatest → bs ≢ decimal v
   not_parsed o e none v le it =
       let v64 : v < 2 ^ 64 = omega arith in
       no_numeral _ _ r o e none read (written_digits v v64 bs it, written_some v v64 bs it, subst (λ n. n < 2 ^ 64) (sym (ap (digits_value 10) it ∙ digits_value-decimal own v v64)) v64)
 
-  -- a number, which may be too great
+  -- where `parse` finds a number, the bytes write it; it may be too great
   pub parsed_number : (n : ℕ) → Some n ≡ result_ok r → Says (UpTo greatest) decimal bs (then_some (leb n greatest) n)
   parsed_number n e = go (leb n greatest) (leb-true n greatest) (leb-false n greatest)
     where

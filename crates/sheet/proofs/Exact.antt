@@ -1,4 +1,4 @@
--- A text has one answer. Assumes nothing.
+-- A text has one answer.
 use Rattle.std.proofs.Common.{◌≡◌, ℕ, ◌^◌, ◌<◌, ◌≤◌, List, [], ◌∷◌, ◌++◌, length, get_or, drop, ℤ, pos, negsuc, Ok, Err, decimal, sym, refl, ap, ◌∙◌, subst, append-nil, arith}
 use lib.Signed.{mag}
 use Rattle.std.specs.Fmt.{signed_decimal}
@@ -24,7 +24,7 @@ use Rattle.sheet.specs.Marks.{mark_whole, same_mark}
 use Rattle.sheet.specs.Turnings.{crossing_whole, turn_whole}
 use Rattle.sheet.proofs.Unique.{Plain, agree, not_both, one_stop, same_line}
 
--- heads
+-- a head says one kind and count
 same_letter : (a b : Kind) → letter a ≡ letter b → a ≡ b
 same_letter Points Points e = refl
 same_letter Points Network e = absurd (omega arith)
@@ -46,7 +46,7 @@ plain_heads =
           λ j. (kind j, count j);
     }
 
--- marks
+-- a mark's line says one place
 mag_six : (z : ℤ) → SixSigned z → mag z < 2 ^ 63
 mag_six (pos n) h = omega arith
 mag_six (negsuc n) h = omega arith
@@ -62,12 +62,12 @@ plain_marks =
           λ j. record { x = x j; y = y j };
     }
 
--- crossings
+-- a crossing's line says one crossing
 plain_crossings : (n : ℕ) → Plain (crossings n)
 plain_crossings n =
     record { whole = λ i v w. crossing_whole v w; one = λ i u v wu wv e. decimal_injective u v (omega (arith, wu)) (omega (arith, wv)) (ap (drop 2) e) }
 
--- turns
+-- a turn's line says one turn
 same_side : (a b : Turn) → side a ≡ side b → a ≡ b
 same_side Left Left e = refl
 same_side Left Right e = absurd (omega arith)
@@ -164,7 +164,7 @@ module _ (text : List ℕ) where
         let long = moved (λ k n. due k n ≤ length (list k b)) k n _ l m _ (opens k n r.values r.holds) (opens l m ws g) r.long in
         omega arith
 
-    -- the lists by the one that is read into, and the others
+    -- three lists are the same where the one that is read into and the two others are
     same_lists : (k : Kind) (a c : Lists) → list k a ≡ list k c → Others k b a → Others k b c → a ≡ c
     same_lists Points a c e p q = λ j. record { places = e j; crossings = (p.0 ∙ sym q.0) j; turns = (p.1 ∙ sym q.1) j }
     same_lists Network a c e p q = λ j. record { places = (p.0 ∙ sym q.0) j; crossings = e j; turns = (p.1 ∙ sym q.1) j }

@@ -1,4 +1,4 @@
--- A refusal names the first line at which the text stops being the beginning of a sheet. Assumes nothing.
+-- A refusal names the first line at which the text stops being the beginning of a sheet.
 use Rattle.std.proofs.Common.{◌≡◌, ℕ, zero, suc, ◌+◌, ◌-◌, ◌<◌, ◌≤◌, List, [], ◌∷◌, ◌++◌, length, get_or, replicate, pos, sym, refl, ap, ◌∙◌, subst, append_assoc, append-nil, zero-add, arith, length-append}
 use lib.ListN.{length-replicate}
 use Rattle.cc.specs.Refusals.{number, places}
@@ -76,7 +76,7 @@ begins k n vs few fine h =
       is = ap (λ l. heads.line 0 (k, n) ++ 10 ∷ l) (lines_append (form k n) 0 vs ws) ∙ sym (append_assoc (heads.line 0 (k, n)) (10 ∷ lines (form k n) 0 vs) (lines (form k n) (0 + length vs) ws));
     }
 
--- with a line that is wrong, no lines of values go on
+-- where the next line is wrong, no sheet has it after the same lines
 no_next : {V : Type 0} (f : Form V) → Plain f → (n : ℕ) (vs ws : List V) (rest : List ℕ) (fault : Fault) → Wrong f n (length vs) rest fault → Fine f 0 vs → Fine f 0 ws → length ws ≡ n → (bs after next : List ℕ) → Lacks 10 bs → rest ≡ bs ++ 10 ∷ after → lines f 0 vs ++ (bs ++ 10 ∷ next) ≡ lines f 0 ws → ⊥
 no_next {V} f p n vs ws rest fault wrong fv fw many bs after next lacks is e =
     go q.0 q.1 (subst (λ m. Fine f m q.0) (zero-add (length vs)) q.2) (q.3 ∙ append-nil _ ∙ ap (λ m. lines f m q.0) (zero-add (length vs)))
@@ -94,14 +94,14 @@ no_next {V} f p n vs ws rest fault wrong fv fw many bs after next lacks is e =
         let under : length vs < n = omega (arith, ap length same, length-append vs (u ∷ us)) in
         unstuck f p n (length vs) rest fault u after under fine.0 fine.1 (is ∙ ap (λ l. l ++ 10 ∷ after) here) wrong
 
--- the place of what is wrong
+-- the line that the refusal names
 place_of : {V : Type 0} (f : Form V) (n i : ℕ) (rest : List ℕ) (fault : Fault) → Wrong f n i rest fault → places fault ≡ (i + 2) ∷ []
 place_of f n i rest fault (missing lt e) = refl
 place_of f n i rest fault (surplus e some) = refl
 place_of f n i rest fault (torn lt some no_value) = refl
 place_of f n i rest fault (outsize lt v after w unfit e) = refl
 
--- the head's line is where a text that does not open stops
+-- a text that does not open stops at the line of the head
 module _ (text : List ℕ) (short : length text ≤ 32768) (fault : Fault) (u : Unopened text fault) where
   no_head_goes_on : (bs after : List ℕ) → Lacks 10 bs → text ≡ bs ++ 10 ∷ after → Begins (bs ++ 10 ∷ []) → ⊥
   no_head_goes_on bs after lacks e g =
@@ -122,7 +122,7 @@ module _ (text : List ℕ) (short : length text ≤ 32768) (fault : Fault) (u : 
         no_sheet = λ k n vs sheet is. not_opened text k n _ (opens text k n vs (record { short = short; sheet = sheet; is = is })) fault u;
       }
 
--- the lines that are fine, and the wrong one
+-- a text whose lines stop has lines that are fine, and then the wrong one
 module _ (text : List ℕ) (k : Kind) (n : ℕ) (rest : List ℕ) (o : Opens text k n rest) (fault : Fault) (s : Stops (form k n) (due k n) rest fault) where
   head_line : List ℕ
   head_line = heads.line 0 (k, n)

@@ -1,4 +1,4 @@
--- Reading lines one after another. Assumes nothing.
+-- Reading lines one after another.
 use Rattle.std.proofs.Common.{◌≡◌, ℕ, suc, ◌+◌, ◌<◌, ◌≤◌, ◌≢◌, List, [], ◌∷◌, ◌++◌, length, take, set, Ok, Err, Some, Option, Result, sym, ap, ◌∙◌, subst, append_assoc, add-zero, zero-add, arith}
 use Rattle.std.proofs.lemmas.List.{length-take-le, take_all, take_more_set}
 use Rattle.std.specs.Option.{ok_or}
@@ -27,7 +27,7 @@ lines_after f vs v after =
     ∙ append_assoc (lines f 0 vs) (here ++ 10 ∷ []) after
     ∙ ap (λ l. lines f 0 vs ++ l) (append_assoc here (10 ∷ []) after)
 
--- a line that says nothing, and one that says too much
+-- a line that says no value is torn, and one that says a value out of range is outsize
 pub untold : {V : Type 0} (f : Form V) (i number n : ℕ) (bs : List ℕ) (r : Option V) (fault : Fault) → Says (f.Written i) (f.line i) bs r → Err fault ≡ ok_or r (Torn n) → n ≡ number → Flawed f i number bs fault
 untold f i number n bs r fault told e same =
     let none = or_none r (Torn n) fault e in
@@ -38,7 +38,7 @@ beyond_range f i number n bs r v told e unfit same =
     let is = subst (Says (f.Written i) (f.line i) bs) e told in
     subst (λ n. Flawed f i number bs (Outsize n)) (sym same) (beyond v is.0 unfit is.1)
 
--- a line that is judged for its place in the sheet
+-- a line is judged alike under equal counts and equal places in the sheet
 pub judged_at : {V : Type 0} (form : ℕ → Form V) (count n at i : ℕ) (bs : List ℕ) (r : Result V Fault) → count ≡ n → at ≡ i → Judged (form count) at (at + 2) bs r → Judged (form n) i (i + 2) bs r
 judged_at form count n at i bs r e f h = subst (λ n. Judged (form n) i (i + 2) bs r) e (subst (λ i. Judged (form count) i (i + 2) bs r) f h)
 
@@ -65,7 +65,7 @@ module _ {V : Type 0} (f : Form V) (text : List ℕ) where
     stop fault wrong =
         record { good = vs; rest = rest; upto = so; wrong = subst (λ k. Wrong f n k rest fault) (sym long) wrong }
 
-    -- no line is left, or none that is ended
+    -- reading stops where no line is left, or none that a byte 10 ends
     pub stop_missed : i < n → (fault : Fault) → Missed rest (i + 2) fault → Stops f n text fault
     stop_missed h fault (ended e) = stop fault (missing h e)
     stop_missed h fault (unended some l) = stop fault (torn h some (λ v after w e. cut_none rest (f.line i v) after l e))
@@ -73,7 +73,7 @@ module _ {V : Type 0} (f : Form V) (text : List ℕ) where
     pub stop_surplus : i ≡ n → rest ≢ [] → Stops f n text (Miscounted (n + 2))
     stop_surplus h e = subst (λ k. Stops f n text (Miscounted (k + 2))) h (stop (Miscounted (i + 2)) (surplus h e))
 
-    -- the line bs is judged
+    -- reading stops where the line bs is refused
     pub stop_judged : ((v : V) → f.Written i v → Lacks 10 (f.line i v)) → i < n → (bs after : List ℕ) → Lacks 10 bs × (rest ≡ bs ++ 10 ∷ after) → (fault : Fault) → Flawed f i (i + 2) bs fault → Stops f n text fault
     stop_judged whole h bs after is fault (formless none) =
         stop fault (torn h (λ e. not_nil 10 bs after (sym is.1 ∙ e)) (λ v after' w e. none v w (cut_unique 10 bs after (f.line i v) after' is.0 (whole v w) (sym is.1 ∙ e)).0))

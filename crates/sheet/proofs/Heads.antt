@@ -1,4 +1,4 @@
--- What a head's line says. Assumes nothing.
+-- What a head's line says.
 use Rattle.std.proofs.Common.{◌≡◌, ℕ, ◌≤◌, ◌≢◌, List, ◌∷◌, ◌++◌, length, decimal, sym, ap, ◌∙◌, arith}
 use Rattle.cc.specs.declared.faults.Fault.{Fault}
 use Rattle.cc.specs.declared.faults.Fault.TheVariants.{Torn}

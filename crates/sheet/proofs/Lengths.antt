@@ -1,4 +1,4 @@
--- No sheet in range is too long. Assumes nothing.
+-- No sheet in range is too long.
 use Rattle.std.proofs.Common.{ℕ, suc, ◌+◌, ◌-◌, ◌*◌, ◌<◌, ◌≤◌, List, [], ◌∷◌, ◌++◌, length, ℤ, pos, negsuc, decimal, mul-suc, arith, length-append}
 use Rattle.std.specs.Fmt.{signed_decimal}
 use Rattle.std.proofs.lemmas.Fmt.{length-decimal-le}
@@ -74,7 +74,7 @@ pub short_enough : ShortEnough
 short_enough k n vs s =
     omega (arith, body_short k n vs s, number_short n (count_six k n s.limited), length-append (heads.line 0 (k, n)) (10 ∷ lines (form k n) 0 vs))
 
--- a triple of the marks below 24 is written with few digits
+-- the triples of up to 24 marks are written with at most six digits
 pub fine_turns : (n i : ℕ) (ts : List Turn) → n ≤ 24 → i + length ts ≤ due Table n → Fine (turns n) i ts
 fine_turns n i [] few h = tt
 fine_turns n i (t ∷ ts) few h =

@@ -1,4 +1,4 @@
--- A head and the lines after it make the answer of a reading. Assumes nothing.
+-- A head and the lines after it make the answer of a reading.
 use Rattle.std.proofs.Common.{min, ◌≡◌, ℕ, ◌-◌, ◌<◌, ◌≤◌, List, length, take, ap, ◌∙◌, subst, arith}
 use Rattle.std.proofs.lemmas.List.{length-take-le}
 use Rattle.cc.specs.declared.faults.Fault.{Fault}
@@ -10,7 +10,7 @@ use Rattle.sheet.specs.declared.Kind.{Kind}
 use Rattle.sheet.specs.declared.Kind.TheVariants.{Points, Network, Table}
 
 module _ (k : Kind) (text : List ℕ) (n : ℕ) (rest : List ℕ) where
-  -- m lines are due, by another name
+  -- a text whose lines stop is refused, where the kind and the number of lines due go by other names
   pub stops : (kind : Kind) (m : ℕ) (fault : Fault) → kind ≡ k → m ≡ due k n → Opens text kind n rest → Stops (form k n) m rest fault → (room : Lists) → Declines text room fault
   stops kind m fault is many opens why room =
       stopped k n rest (subst (λ l. Opens text l n rest) is opens) (subst (λ l. Stops (form k n) l rest fault) many why)

@@ -3,7 +3,7 @@ use Rattle.std.proofs.Common.{◌≡◌, Some, None, Ok, Err, Option, Result, Ma
 use Rattle.std.specs.Option.{ok_or}
 use Rattle.std.specs.Result.{result_ok}
 
--- what an `Ok` that `ok` gave has, and an `Err` that it dropped
+-- what holds of the value that `ok` gives, and of the error that it drops
 pub some_ok : {T E : Type 0} (P : T → Type 0) (Q : E → Type 0) (r : Result T E) (x : T) → Some x ≡ result_ok r → MatchResult r P Q → P x
 some_ok P Q (Ok y) x e h = let same : y ≡ x = cc in subst P same h
 some_ok P Q (Err y) x e h = absurd (cc)
@@ -12,12 +12,12 @@ pub none_err : {T E : Type 0} (P : T → Type 0) (Q : E → Type 0) (r : Result 
 none_err P Q (Ok y) o e none h = absurd (cc)
 none_err P Q (Err y) o e none h = (y, h)
 
--- a value, or an error in place of none
+-- what holds of the value that `ok_or` gives, or of the error that it puts in place of none
 pub or_error : {T E : Type 0} (N : Type 0) (P : T → Type 0) (Q : E → Type 0) (o : Option T) (e : E) (r : Result T E) → r ≡ ok_or o e → MatchOption o N P → (N → Q e) → MatchResult r P Q
 or_error N P Q (Some x) e r is h none = subst (λ r. MatchResult r P Q) (sym is) h
 or_error N P Q None e r is h none = subst (λ r. MatchResult r P Q) (sym is) (none h)
 
--- the error, where it came in place of none
+-- an error that `ok_or` gives came in place of none
 pub or_none : {T E : Type 0} (o : Option T) (e f : E) → Err f ≡ ok_or o e → (f ≡ e) × (o ≡ None)
 or_none (Some x) e f h = absurd (cc)
 or_none None e f h = let same : f ≡ e = cc in (same, refl)

@@ -1,4 +1,4 @@
--- The triples of a table's lines are all triples of its marks, in rising order. Assumes nothing.
+-- The triples of a table's lines are all triples of its marks, in rising order.
 use Rattle.std.proofs.Common.{◌≡◌, ℕ, zero, suc, ◌+◌, ◌-◌, ◌<◌, ◌≤◌, Bool, true, false, cond, ◌&&◌, eqb, ltb, ◌⊎◌, sym, refl, ap, ◌∙◌, subst, inl, inr, ⊎_elim, arith, ltb-false, ltb-true, eqb-true}
 use borrow.Author.Tests.{clash}
 use Rattle.std.proofs.str.Laws.{order}
@@ -8,7 +8,7 @@ use Rattle.sheet.specs.Triples.{after, triple_at}
 use Rattle.sheet.specs.declared.Kind.TheVariants.{Table}
 use Rattle.sheet.specs.declared.spots.Triple.{Triple}
 
--- t is u, comes before it, or is past it
+-- a triple whose marks do not exceed those of u, in the order in which triples are compared, is u or comes before it
 same_or_before : (t u : Triple) → t.i ≤ u.i → (t.i ≡ u.i → t.j ≤ u.j) → (t.i ≡ u.i → t.j ≡ u.j → t.k ≤ u.k) → (t ≡ u) ⊎ Before t u
 same_or_before t u hi hj hk =
     ⊎_elim (λ lt. inr (inl lt)) (λ ge.
@@ -78,7 +78,7 @@ module _ (n : ℕ) (t u : Triple) (bt : Below n t) (bu : Below n u) (less : Befo
 same_triple : {t u : Triple} → t.i ≡ u.i → t.j ≡ u.j → t.k ≡ u.k → t ≡ u
 same_triple i j k = λ x. record { i = i x; j = j x; k = k x }
 
--- the last triple, by a test that is computed for each n up to 24
+-- a table's last line has the last triple: a test of this, computed for 3 to 24 marks
 is_last : ℕ → Bool
 is_last m =
     let t = triple_at (m + 3) (due Table (m + 3) - 1) in
@@ -124,7 +124,7 @@ last_is n h l =
     subst (λ k. triple_at k (due Table k - 1) ≡ record { i = k - 3; j = k - 2; k = k - 1 }) back
     (e ∙ same_triple (omega arith) (omega arith) (omega arith))
 
--- before, before: before
+-- what comes before a triple comes before those after it too
 before_on : (t u v : Triple) → Before t u → Before u v → Before t v
 before_on t u v p q =
     ⊎_elim
@@ -141,7 +141,7 @@ before_on t u v p q =
     q)
     p
 
--- past the last triple, no line's triple is one of the marks
+-- t has too great an i for a triple of the marks below n, and so has every triple after it
 Past : ℕ → Triple → Type 0
 Past n t = (t.i < t.j) × (t.j < t.k) × (n ≤ t.i + 2)
 
@@ -250,7 +250,7 @@ module _ (n : ℕ) (some : 3 ≤ n) (few : n ≤ 24) where
             (found u b (due Table n - 1) (omega arith));
       }
 
--- there is a triple of three marks or more, and none of fewer
+-- a line is due where there are three marks or more, and none where there are fewer
 is_due : ℕ → Bool
 is_due m = ltb 0 (due Table (m + 3))
 

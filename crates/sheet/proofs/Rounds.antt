@@ -1,4 +1,4 @@
--- A sheet that is written is read back. Assumes nothing.
+-- A sheet that is written is read back.
 use Rattle.std.proofs.Common.{◌≡◌, List, ◌++◌, drop, Ok, sym, refl, ap, ◌∙◌, subst}
 use Rattle.sheet.specs.Sheets.{Lists, Others, Reads, Value, due, list, written}
 use Rattle.sheet.specs.Theorems.{RoundTrip}
@@ -7,7 +7,7 @@ use Rattle.sheet.specs.declared.Kind.TheVariants.{Points, Network, Table}
 use Rattle.sheet.proofs.Exact.{one_answer}
 use Rattle.sheet.proofs.Lengths.{short_enough}
 
--- the list of a kind is another one
+-- the lists, with another one in the place of that of the kind
 abbrev put : (k : Kind) → List (Value k) → Lists → Lists
 put Points l b = record { places = l; crossings = b.crossings; turns = b.turns }
 put Network l b = record { places = b.places; crossings = l; turns = b.turns }

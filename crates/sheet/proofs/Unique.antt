@@ -1,4 +1,4 @@
--- A text is read in one way. Assumes nothing.
+-- A text is read in one way.
 use Rattle.std.proofs.Common.{◌≡◌, ℕ, suc, ◌+◌, ◌<◌, ◌≤◌, List, [], ◌∷◌, ◌++◌, length, sym, refl, ap, ◌∙◌, subst, ⊎_elim, append_assoc, append-nil, add-zero, zero-add, arith, length-append}
 use Rattle.std.proofs.str.Laws.{order}
 use Rattle.cc.specs.declared.faults.Fault.{Fault}

@@ -1,4 +1,4 @@
--- A line is cut at its tabs in one way. Assumes nothing.
+-- Lemmas: a line is cut at its tabs in one way. They are proved here; the lemmas that the code cites (`Marks`, `Turnings`) build on them.
 use Rattle.std.specs.Prelude.{◌≡◌, ℕ, zero, suc, ◌-◌, ◌≤◌, ◌≢◌, List, [], ◌∷◌, ◌++◌, length, take, drop, slice_index, refl}
 use Rattle.std.proofs.Common.{sym, ap, subst, ◌∙◌, arith}
 use Rattle.std.proofs.lemmas.List.{take_all}
@@ -38,7 +38,7 @@ not_nil b (a ∷ x) y e = let z : 1 ≤ 0 = subst (λ l. 1 ≤ length l) e (omeg
 differ : (a b : ℕ) {x y : List ℕ} → a ≢ b → a ∷ x ≢ b ∷ y
 differ a b h e = h (ap (λ s. slice_index s 0) e)
 
--- the first letter tells the shape
+-- the first letter of a line tells its shape
 pub only_mark : (fs : List ℕ) → ((x y : List ℕ) → Lacks 9 x → fs ≢ x ++ 9 ∷ y) → (s : Shape) → Parted s → 109 ∷ 9 ∷ fs ≢ spelled s
 only_mark fs none (head Points c) p e = differ 109 80 (omega arith) e
 only_mark fs none (head Network c) p e = differ 109 87 (omega arith) e
@@ -76,7 +76,7 @@ module _ {fs i ai j aj k last : List ℕ} (cuts : Cuts fs i ai j aj k last) wher
 pub no_letter : (last : List ℕ) (b : ℕ) → b ≡ slice_index last 0 → ((t : Turn) → b ≢ side t) → (t : Turn) → last ≢ side t ∷ []
 no_letter last b is none t e = none t (is ∙ ap (λ s. slice_index s 0) e)
 
--- `[letter, b'\t', fields @ ..]`
+-- bytes that match `[letter, b'\t', fields @ ..]`, where letter is a
 pub lettered : (bs : List ℕ) (a : ℕ) → 2 ≤ length bs → slice_index bs 0 ≡ a → slice_index bs 1 ≡ 9 → bs ≡ a ∷ 9 ∷ take (length bs - 2) (drop 2 bs)
 lettered [] a h e f = absurd (omega arith)
 lettered (x ∷ []) a h e f = absurd (omega arith)

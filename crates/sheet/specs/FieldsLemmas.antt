@@ -1,4 +1,5 @@
--- A text is cut at a byte, and digits that write a number. Assumes nothing.
+-- Lemmas on the digits that write a number, on a minus, and on bytes that neither writes. They are proved here; the lemmas that the code
+-- cites (`Marks`, `Turnings`) build on them.
 use Rattle.std.specs.Prelude.{◌≡◌, ℕ, zero, suc, ◌-◌, ◌^◌, ◌<◌, ◌≢◌, List, [], ◌∷◌, length, take, drop, ℤ, pos, negsuc, neg_ℤ, Some, None, decimal, Option, MatchOption, slice_index, slice_index_or, refl}
 use Rattle.std.proofs.Common.{sym, ap, subst, ◌∙◌, arith}
 use Rattle.std.specs.Str.Parse.{AllDigits, digits_value}
@@ -8,7 +9,7 @@ use Rattle.std.proofs.lemmas.Str.Parse.{IsNumeralModel, numerals_by_value, digit
 use Rattle.std.proofs.lemmas.Fmt.{decimal_digit, decimal_nonempty, digits_decimal, first_decimal, decimal_injective}
 use Rattle.sheet.specs.Fields.{Six, SixSigned, Lacks, Says}
 
--- the digits' own words are those of the shelf
+-- the lemmas of `std` on numerals hold of `AllDigits 10` and `digits_value 10`
 pub own : IsNumeralModel (AllDigits 10) (digits_value 10)
 own = numerals_by_value (AllDigits 10) tells_digits
 
@@ -27,12 +28,12 @@ module _ (n : ℕ) (wide : n < 2 ^ 64) (bs : List ℕ) (is : bs ≡ decimal n) w
       go zero e = ap length (is ∙ sym (ap decimal e) ∙ decimal_digit 0 (omega arith))
       go (suc m) e = absurd (omega (arith, first_decimal n (omega arith) wide, ap (λ l. slice_index l 0) is))
 
--- `[first, rest @ ..]`, where first is b
+-- bytes that match `[first, rest @ ..]`, where first is b
 pub front : (bs : List ℕ) (b : ℕ) → 0 < length bs → slice_index bs 0 ≡ b → bs ≡ b ∷ take (length bs - 1) (drop 1 bs)
 front [] b h is = absurd (omega arith)
 front (x ∷ bs) b h is = ap (λ l. x ∷ l) (sym (take_all (suc (length bs) - 1) bs (omega arith))) ∙ ap (λ y. y ∷ take (suc (length bs) - 1) bs) is
 
--- a minus, and then no number above 0
+-- a minus that no number above 0 follows begins no coordinate
 pub no_minus : (bs rest : List ℕ) → bs ≡ 45 ∷ rest → ((n : ℕ) → Six (suc n) → rest ≢ decimal (suc n)) → (z : ℤ) → SixSigned z → bs ≢ signed_decimal z
 no_minus bs rest first none (pos n) six is = let d : 36 < 10 = (written_digits n (omega arith) (45 ∷ rest) (sym first ∙ is)).0 in omega arith
 no_minus bs rest first none (negsuc n) six is = none n six (ap (drop 1) (sym first ∙ is))
@@ -42,13 +43,13 @@ minus bs rest zero z first six is some e = absurd (omega arith)
 minus bs rest (suc n) z first six is some e =
     subst (λ y. SixSigned y × (bs ≡ signed_decimal y)) (sym e) (six, first ∙ ap (λ l. 45 ∷ l) is)
 
--- what is said after a minus
+-- what bytes say that begin with a minus, by the number after it
 pub says_minus : (bs rest : List ℕ) (n : ℕ) (r : Option ℤ) → bs ≡ 45 ∷ rest → Six n × (rest ≡ decimal n) → MatchOption r (n ≡ 0) (λ z. (0 < n) × (z ≡ neg_ℤ (pos n))) → Says SixSigned signed_decimal bs r
 says_minus bs rest n None first told none =
     no_minus bs rest first (λ m six is. omega (arith, none, decimal_injective n (suc m) (omega (arith, told.0)) (omega arith) (sym told.1 ∙ is)))
 says_minus bs rest n (Some z) first told some = minus bs rest n z first told.0 told.1 some.0 some.1
 
--- what is written holds neither a tab nor a byte 10
+-- a number that is written holds no byte below its digits and its minus: neither a tab nor a byte 10
 pub decimal_lacks : (b n : ℕ) → b < 48 → Six n → Lacks b (decimal n)
 decimal_lacks b n low six i h e =
     let digit = digit_at (decimal n) i (digits_decimal own n (omega arith)) h in

@@ -1,4 +1,4 @@
--- What a mark's line says. Assumes nothing.
+-- Lemmas on the line of a mark: it says one place, and holds no byte 10. They are proved here, where `src/entries.rt` can cite them.
 use Rattle.std.specs.Prelude.{◌≡◌, ℕ, List, ◌∷◌, ◌++◌, drop, ℤ}
 use Rattle.std.proofs.Common.{sym, ap, ◌∙◌, arith}
 use Rattle.std.specs.Fmt.{signed_decimal}

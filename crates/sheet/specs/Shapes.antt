@@ -9,17 +9,17 @@ use Rattle.sheet.specs.declared.Kind.TheVariants.{Points, Network, Table}
 use Rattle.sheet.specs.declared.lines.Line.{Line}
 use Rattle.sheet.specs.declared.lines.Line.TheVariants as line
 
--- P, W and T
+-- a kind's letter: P, W or T
 abbrev pub letter : Kind → ℕ
 letter Points = 80
 letter Network = 87
 letter Table = 84
 
--- the kind that the letter tells; none tells it otherwise
+-- what is read from a letter: the kind that has it, or an error that holds it where no kind has it
 abbrev pub Lettered : ℕ → Result Kind UnknownLetter → Type 0
 Lettered b r = MatchResult r (λ kind. b ≡ letter kind) (λ error. ((kind : Kind) → b ≢ letter kind) × (error.0 ≡ b))
 
--- a line by its fields
+-- a line of a sheet, by its fields
 pub data Shape : Type 0 where
   head : Kind → List ℕ → Shape
   mark : List ℕ → List ℕ → Shape
@@ -33,12 +33,14 @@ initial (mark x y) = 109
 initial (crossing place) = 99
 initial (turning i j k turn) = 116
 
+-- what stands after the letter and its tab
 abbrev pub fields : Shape → List ℕ
 fields (head kind count) = count
 fields (mark x y) = x ++ 9 ∷ y
 fields (crossing place) = place
 fields (turning i j k turn) = i ++ 9 ∷ (j ++ 9 ∷ (k ++ 9 ∷ side turn ∷ []))
 
+-- the bytes of the line
 abbrev pub spelled : Shape → List ℕ
 spelled s = initial s ∷ 9 ∷ fields s
 
@@ -49,6 +51,7 @@ Parted (mark x y) = Lacks 9 x
 Parted (crossing place) = Unit {0}
 Parted (turning i j k turn) = Lacks 9 i × Lacks 9 j × Lacks 9 k
 
+-- the shape of a `Line` of the code
 abbrev pub shape : Line → Shape
 shape (line.Head kind count) = head kind count.now
 shape (line.Mark x y) = mark x.now y.now

@@ -19,7 +19,7 @@ use Rattle.sheet.specs.declared.rooms.Room.{Room}
 use Rattle.sheet.specs.declared.rooms.Values.{Values}
 use Rattle.sheet.specs.declared.rooms.Values.TheVariants as values
 
--- the greatest count
+-- the greatest count that a sheet of the kind may have
 abbrev pub limit : Kind → ℕ
 limit Points = 128
 limit Network = 32
@@ -31,40 +31,43 @@ due Points n = n
 due Network n = pairs_of n
 due Table n = threes_of n
 
--- the head: the kind's letter and the count
+-- the form of the head: the kind's letter and the count
 abbrev pub heads : Form (Kind × ℕ)
 heads = record { line = λ at v. spelled (head v.0 (decimal v.1)); Written = λ at v. Six v.1; Fits = λ v. v.1 ≤ limit v.0 }
 
--- a mark's place
+-- the form of a line that says a mark's place
 abbrev pub marks : Form Place
 marks = record { line = λ at p. spelled (mark (signed_decimal p.x) (signed_decimal p.y)); Written = λ at p. SixSigned p.x × SixSigned p.y; Fits = Near }
 
--- a crossing of n wires, by its upper place
+-- the form of a line that says a crossing of n wires: k, where it swaps the wires at places k and k + 1
 abbrev pub crossings : ℕ → Form ℕ
 crossings n = record { line = λ at k. spelled (crossing (decimal k)); Written = λ at. Six; Fits = λ k. k + 2 ≤ n }
 
+-- the marks of a triple have at most six digits
 abbrev pub sixes : Triple → Type 0
 sixes t = Six t.i × Six t.j × Six t.k
 
+-- the line that says how a triple turns
 abbrev pub turn_line : Triple → Turn → List ℕ
 turn_line t turn = spelled (turning (decimal t.i) (decimal t.j) (decimal t.k) turn)
 
--- the turn of the line's triple, of n marks
+-- the form of a line that says how its triple of the n marks turns
 abbrev pub turns : ℕ → Form Turn
 turns n = record { line = λ at. turn_line (triple_at n at); Written = λ at _. sixes (triple_at n at); Fits = λ _. Unit {0} }
 
--- what a line after the head says
+-- what a line after the head says, in the sheets of a kind
 abbrev pub Value : Kind → Type 0
 Value Points = Place
 Value Network = ℕ
 Value Table = Turn
 
+-- the form of the lines after the head, in the sheets of a kind and a count
 abbrev pub form : (k : Kind) → ℕ → Form (Value k)
 form Points n = marks
 form Network n = crossings n
 form Table n = turns n
 
--- the text of a sheet
+-- the text of the sheet of this kind and count with these values
 abbrev pub written : (k : Kind) (n : ℕ) → List (Value k) → List ℕ
 written k n vs = heads.line 0 (k, n) ++ 10 ∷ lines (form k n) 0 vs
 
@@ -74,7 +77,7 @@ pub record Sheet (k : Kind) (n : ℕ) (vs : List (Value k)) : Type 0 where
   pub many : length vs ≡ due k n
   pub fine : Fine (form k n) 0 vs
 
--- the text is the sheet's
+-- the text is that of a sheet in range, and not too long, which no such text is (`ShortEnough`)
 pub record Holds (text : List ℕ) (k : Kind) (n : ℕ) (vs : List (Value k)) : Type 0 where
   pub short : length text ≤ 32768
   pub sheet : Sheet k n vs
@@ -92,7 +95,7 @@ pub record Opens (text : List ℕ) (k : Kind) (n : ℕ) (rest : List ℕ) : Type
   pub limited : n ≤ limit k
   pub is : text ≡ heads.line 0 (k, n) ++ 10 ∷ rest
 
--- the text is too long, or no head begins it, or one that is out of range
+-- why no lines after a head are looked at: the text is too long, or no head begins it, or one that is out of range
 pub data Unopened (text : List ℕ) : Fault → Type 0 where
   long : 32768 < length text → Unopened text (Outsize 0)
   headless : length text ≤ 32768 → ((v : Kind × ℕ) (rest : List ℕ) → heads.Written 0 v → text ≢ heads.line 0 v ++ 10 ∷ rest) → Unopened text (Torn 1)
@@ -104,6 +107,7 @@ pub record Lists : Type 0 where
   pub crossings : List ℕ
   pub turns : List Turn
 
+-- three lists as the caller's
 abbrev pub lists : List Place → List ℕ → List Turn → Lists
 lists ps cs ts = record { places = ps; crossings = cs; turns = ts }
 
@@ -119,7 +123,7 @@ Others Points b a = (a.crossings ≡ b.crossings) × (a.turns ≡ b.turns)
 Others Network b a = (a.places ≡ b.places) × (a.turns ≡ b.turns)
 Others Table b a = (a.places ≡ b.places) × (a.crossings ≡ b.crossings)
 
--- the text is a sheet's, and its values stand at the front of the list of its kind; the rest of that list and the other lists are as before
+-- the text is a sheet's, whose values stand at the front of the list of its kind; the rest of that list and the other lists are as before
 pub record Reads (text : List ℕ) (k : Kind) (n : ℕ) (b a : Lists) : Type 0 where
   pub values : List (Value k)
   pub holds : Holds text k n values
@@ -127,7 +131,7 @@ pub record Reads (text : List ℕ) (k : Kind) (n : ℕ) (b a : Lists) : Type 0 w
   pub front : list k a ≡ values ++ drop (due k n) (list k b)
   pub others : Others k b a
 
--- why a text is refused
+-- why a text is refused: for its length or its head, for the lines after the head, or for a list of its kind that is too short
 pub data Declines (text : List ℕ) (b : Lists) (fault : Fault) : Type 0 where
   unopened : Unopened text fault → Declines text b fault
   stopped : (k : Kind) (n : ℕ) (rest : List ℕ) → Opens text k n rest → Stops (form k n) (due k n) rest fault → Declines text b fault
@@ -137,7 +141,7 @@ pub data Declines (text : List ℕ) (b : Lists) (fault : Fault) : Type 0 where
 abbrev pub Answers : List ℕ → Lists → Lists → Result (Kind × ℕ) Fault → Type 0
 Answers text b a r = MatchResult r (λ o. Reads text o.0 o.1 b a) (λ e. Declines text b e × (a ≡ b))
 
--- no sheet was read into the room
+-- the room before any sheet is read into it: each place is 0, 0, each crossing 0, and each turn left
 abbrev pub Blank : Room → Type 0
 Blank room =
     (room.places ≡ replicate 128 (record { x = pos 0; y = pos 0 })) × (room.crossings ≡ replicate 496 0) × (room.turns ≡ replicate 2024 Left)

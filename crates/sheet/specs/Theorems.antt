@@ -14,7 +14,7 @@ use Rattle.sheet.specs.declared.spots.Triple.{Triple}
 abbrev pub OneAnswer : Type 0
 OneAnswer = (text : List ℕ) (b a c : Lists) (r s : Result (Kind × ℕ) Fault) → Answers text b a r → Answers text b c s → (r ≡ s) × (a ≡ c)
 
--- n lines, each ended by a byte 10
+-- the bytes are n lines, each ended by a byte 10
 pub data Lined : ℕ → List ℕ → Type 0 where
   none : Lined 0 []
   more : {n : ℕ} {rest : List ℕ} (bs : List ℕ) → Lacks 10 bs → Lined n rest → Lined (suc n) (bs ++ 10 ∷ rest)
@@ -28,7 +28,7 @@ pub record Begins (bytes : List ℕ) : Type 0 where
   pub rest : List ℕ
   pub is : written kind count values ≡ bytes ++ rest
 
--- the text's first lines, so many, begin a sheet, and with the line after them they begin none; the text itself is no sheet either
+-- the first lines of the text, `before` of them, begin a sheet, and with the line after them they begin none; the text is no sheet either
 pub record StopsAfter (text : List ℕ) (before : ℕ) : Type 0 where
   pub lines : List ℕ
   pub rest : List ℕ
@@ -38,8 +38,8 @@ pub record StopsAfter (text : List ℕ) (before : ℕ) : Type 0 where
   pub ends : (bs after : List ℕ) → Lacks 10 bs → rest ≡ bs ++ 10 ∷ after → Begins (lines ++ (bs ++ 10 ∷ [])) → ⊥
   pub no_sheet : (k : Kind) (n : ℕ) (vs : List (Value k)) → Sheet k n vs → text ≢ written k n vs
 
--- a refusal with number 1, 2 or 3 names the first line at which the text stops being the beginning of a sheet; the line 0 stands for a text
--- that is too long
+-- a refusal with number 1, 2 or 3 names the first line at which the text stops being the beginning of a sheet, unless it names line 0,
+-- as it does for a text that is too long
 abbrev pub FirstLine : Type 0
 FirstLine =
     (text : List ℕ) (b a : Lists) (fault : Fault) (before : ℕ) → Answers text b a (Err fault) → number fault ≤ 3 → places fault ≡ (before + 1) ∷ [] → StopsAfter text before
@@ -59,11 +59,11 @@ RoundTrip =
 abbrev pub ShortEnough : Type 0
 ShortEnough = (k : Kind) (n : ℕ) (vs : List (Value k)) → Sheet k n vs → length (written k n vs) ≤ 32768
 
--- every table of turns has a sheet
+-- every table of turns, of at most 24 marks, has a sheet
 abbrev pub EveryTable : Type 0
 EveryTable = (n : ℕ) (ts : List Turn) → n ≤ limit Table → length ts ≡ due Table n → Sheet Table n ts
 
--- i < j < k, marks below n
+-- the triple is one of marks below n, and i < j < k
 pub record Below (n : ℕ) (t : Triple) : Type 0 where
   pub ij : t.i < t.j
   pub jk : t.j < t.k
@@ -79,5 +79,6 @@ pub record Listed (n : ℕ) : Type 0 where
   pub rising : (at later : ℕ) → at < later → later < due Table n → Before (triple_at n at) (triple_at n later)
   pub all : (t : Triple) → Below n t → (at : ℕ) × (at < due Table n) × (triple_at n at ≡ t)
 
+-- the triples of every table in range are listed so
 abbrev pub AllTriples : Type 0
 AllTriples = (n : ℕ) → n ≤ limit Table → Listed n

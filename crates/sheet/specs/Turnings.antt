@@ -1,4 +1,4 @@
--- Crossings, and turns by their triples. Assumes nothing.
+-- Lemmas on the lines of crossings, and on those of turns and their triples. They are proved here, where `src/entries.rt` can cite them.
 use Rattle.std.specs.Prelude.{◌≡◌, ℕ, zero, suc, ◌+◌, ◌*◌, ◌/◌, ◌<◌, ◌≤◌, Bool, true, false, cond, ◌≢◌, List, [], ◌∷◌, ◌++◌, drop, decimal, MatchBool, ◌==◌, nat_eq, nat_lt, Option, Some, None, refl}
 use Rattle.std.specs.Bool.{then_some}
 use Rattle.std.specs.Option.{option_eq}
@@ -24,7 +24,7 @@ side_whole : (t : Turn) → side t ≢ 10
 side_whole Left e = omega arith
 side_whole Right e = omega arith
 
--- a number, a tab and more
+-- a number, a tab and more bytes hold no byte 10, where those bytes hold none
 field_whole : (n : ℕ) (more : List ℕ) → Six n → Lacks 10 more → Lacks 10 (decimal n ++ 9 ∷ more)
 field_whole n more six l =
     lacks_append 10 (decimal n) (9 ∷ more) (decimal_lacks 10 n (omega arith) six) (lacks_cons 10 9 more (omega arith) l)
@@ -38,7 +38,7 @@ turn_whole t turn six =
     lacks_cons 10 116 (9 ∷ i) (omega arith) (lacks_cons 10 9 i (omega arith)
     (field_whole t.i j six.0 (field_whole t.j k six.1 (field_whole t.k last six.2 (lacks_cons 10 (side turn) [] (side_whole turn) (λ n h. absurd (omega arith)))))))
 
--- the triples rise, and at most by one at each step
+-- the marks of a triple rise, and none is above m; each next line may raise m by one
 pub record Rises (t : Triple) (m : ℕ) : Type 0 where
   pub ij : t.i < t.j
   pub jk : t.j < t.k
@@ -65,7 +65,7 @@ says_number bs (Some m) n told = go (m == n) refl
     go true e = subst (λ k. Six k × (bs ≡ decimal k)) (eqb-true m n e) told
     go false e = λ six is. eqb-false m n e (decimal_injective m n (omega (arith, told.0)) (omega arith) (sym told.1 ∙ is))
 
--- the fields of a turn's line are those of its triple-at
+-- the fields that a triple and a turn write hold no tab
 pub turn_parted : (t : Triple) (turn : Turn) → sixes t → Parted (turning (decimal t.i) (decimal t.j) (decimal t.k) turn)
 turn_parted t turn six =
     (decimal_lacks 9 t.i (omega arith) six.0, decimal_lacks 9 t.j (omega arith) six.1, decimal_lacks 9 t.k (omega arith) six.2)

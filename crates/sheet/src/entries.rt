@@ -17,10 +17,10 @@ use models::places::Place;
 
 // What one line after the head tells, in the sheets of a kind.
 pub(crate) trait Entry: Copy + Drop {
-    // how it is written in a sheet of so many marks
+    // The form of its lines in a sheet of so many marks.
     ghost form: { ℕ → Form Self };
 
-    // What the line says, without the byte 10 at its end.
+    // What the line says, if it has the form. It comes without the byte 10 at its end.
     fn told(line: &[u8], spot: Spot) -> Option<Self>
         ensures told { Says ((form spot.count).Written spot.at) ((form spot.count).line spot.at) line.now result };
 
@@ -28,6 +28,7 @@ pub(crate) trait Entry: Copy + Drop {
     fn fits(&self, count: usize) -> bool
         ensures fits { MatchBool result ((form count).Fits self.now) ((form count).Fits self.now → ⊥) };
 
+    // No such line holds a byte 10.
     ghost whole: { (n at : ℕ) (v : Self) → (form n).Written at v → Lacks 10 ((form n).line at v) };
 }
 
@@ -93,7 +94,7 @@ fn is_triple(i: &[u8], j: &[u8], k: &[u8], triple: Triple) -> bool
     is_number(i, triple.i) && is_number(j, triple.j) && is_number(k, triple.k)
 }
 
-// What the line that is due says, in range.
+// What the line that is due at the spot says, in range; or the refusal of that line.
 fn judge<E: Entry>(line: &[u8], spot: Spot) -> Result<E, Fault>
     ensures judged { Judged (E.form spot.count) spot.at (spot.at + 2) line.now result }
 {
@@ -115,7 +116,7 @@ fn next_line(rest: &[u8], number: usize) -> Result<(&[u8], &[u8]), Fault>
     cut(rest, b'\n').ok_or(Fault::Torn(number))
 }
 
-// The text ends where the line with this number would begin.
+// Whether the text ends where the line with this number would begin; otherwise that line is one too many.
 fn at_end(rest: &[u8], line: usize) -> Result<(), Fault>
     ensures end { MatchResult result (λ _. length rest.now ≡ 0) (λ e. (0 < length rest.now) × (e ≡ Fault.Miscounted line)) }
 {
@@ -126,14 +127,15 @@ fn at_end(rest: &[u8], line: usize) -> Result<(), Fault>
     }
 }
 
-// Reads a line into each entry of the list, and nothing may follow them.
+// Reads one line into each entry of the list, in their order; no text may follow these lines.
 pub(crate) fn read_lines<E: Entry>(text: &[u8], count: usize, list: &mut [E]) -> Result<(), Fault>
     requires few { length list.old ≤ 2024 }
     ensures read { MatchResult result (λ _. Upto (E.form count) text.now list.new []) (λ e. Stops (E.form count) (length list.old) text.now e) }
 {
     let mut rest = text;
     let mut spot = Spot::first(count);
-    // stays moved on by hand: a line that is due and missing is a fault of its own, and the next triple follows from the last
+    // `rest` and `spot` stay moved on by hand: an iterator over the lines would just end where one is missing, which is a fault here, and
+    // each line's triple is made from the triple before it
     for entry in list.iter_mut() {
         let (line, after) = next_line(rest, spot.number())?;
         *entry = judge(line, spot)?;

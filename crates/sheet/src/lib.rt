@@ -1,7 +1,7 @@
 //! The text format of the library's inputs, read exactly.
 //!
 //! A sheet tells a list of places, the crossings of a reflection network, or a table of turns (docs/SHEETS.md).
-//! What a sheet's text is stands in `specs/Sheets`; `read` gives back the one sheet that a text is, or says where the text stops being one.
+//! `specs/Sheets` says what the text of a sheet is; `read` gives back the one sheet that a text is, or says where it stops being one.
 
 #![tactic(auto)]
 
@@ -31,7 +31,7 @@ use std::fmt;
 // The most bytes that a sheet's text may have.
 const LONGEST: usize = 32_768;
 
-// What a sheet tells: its letter is P, W or T.
+// The kind of a sheet, by what it tells: places (its letter is P), the crossings of a network (W), or a table of turns (T).
 #[derive(Clone, Copy, PartialEq, Eq, Debug)]
 pub enum Kind {
     Points,
@@ -64,7 +64,7 @@ impl Kind {
     }
 }
 
-// The kind that P, W or T tells.
+// The kind whose letter it is.
 impl TryFrom<u8> for Kind {
     type Error = UnknownLetter;
 
@@ -80,7 +80,7 @@ impl TryFrom<u8> for Kind {
     }
 }
 
-// Its letter.
+// A kind prints as its letter.
 impl fmt::Display for Kind {
     ghost output = { λ kind. Some (letter kind ∷ []) };
 
@@ -100,7 +100,7 @@ struct Head {
     count: usize,
 }
 
-// The head that the line says, without the byte 10 at its end.
+// The head that a line says, if it says one. The line comes without the byte 10 at its end.
 fn head_told(line: &[u8]) -> Option<Head>
     ensures told { Says (λ h. Six h.count) (λ h. heads.line 0 (h.kind, h.count)) line.now result }
 {
@@ -113,7 +113,7 @@ fn head_told(line: &[u8]) -> Option<Head>
     })
 }
 
-// A text's head, and the lines after it.
+// A text's head, in range, and what follows its line; or the refusal of the text's length or of its head.
 fn opening(text: &[u8]) -> Result<(Head, &[u8]), Fault>
     ensures opened { MatchResult result (λ o. Opens text.now o.0.kind o.0.count o.1.now) (λ e. Unopened text.now e) }
 {
@@ -159,19 +159,19 @@ pub fn read(
     }
 }
 
-// What `read` promises leaves one answer for each text and its lists, and the line of a refusal is the first at which the text stops being the
-// beginning of a sheet: the theorems, with no code of their own.
+// The promise of `read` leaves one answer for each text and its lists, and a refusal names the first line at which the text stops being the
+// beginning of a sheet. These are theorems, as are those of the two functions below: the contracts say them, and there is no code.
 pub fn one_answer_stands()
     ensures one { OneAnswer }
     ensures line { FirstLine }
 {}
 
-// The triples of a table's lines are all triples of its marks, each once, in rising order: the theorem, with no code of its own.
+// The triples of a table's lines are all triples of its marks, each once, in rising order.
 pub fn triples_stand()
     ensures all { AllTriples }
 {}
 
-// A sheet that is written is read back: the theorems, with no code of their own. No sheet in range is too long, and every table has one.
+// The text of a sheet is read back as that sheet, no sheet in range is too long, and every table of turns has a sheet.
 pub fn round_trip_stands()
     ensures back { RoundTrip }
     ensures short { ShortEnough }

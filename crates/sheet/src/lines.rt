@@ -31,7 +31,7 @@ pub(crate) enum Line<'a> {
     },
 }
 
-// The fields of a turn's line, after its letter and the tab.
+// The line of a turn, from what stands after its letter and the tab; none where these are not the fields of a turn.
 fn turning_fields(fields: &[u8]) -> Option<Line<'_>>
     ensures fields { Says Parted spelled (116 ∷ 9 ∷ fields.now) (option_map shape result) }
 {

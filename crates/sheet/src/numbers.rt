@@ -7,7 +7,7 @@ ghost use Rattle.sheet.specs.Fields.{Lacks, Says, Six, SixSigned, UpTo};
 // The greatest number of six digits.
 const SIX_NINES: usize = 999_999;
 
-// The bytes before the first `mark`, and those after it.
+// The bytes before the first byte that is `mark`, and those after it; none where no byte is.
 pub fn cut(bytes: &[u8], mark: u8) -> Option<(&[u8], &[u8])>
     ensures parts { MatchOption result (Lacks mark bytes.now) (λ p. Lacks mark p.0.now × (bytes.now ≡ p.0.now ++ mark ∷ p.1.now)) }
 {
@@ -22,7 +22,7 @@ fn is_adorned(bytes: &[u8]) -> bool
     matches!(bytes, [b'+', ..] | [b'0', _, ..])
 }
 
-// The number, of at most `greatest`, that the bytes write: digits without a needless zero in front.
+// The number, of at most `greatest`, that the bytes write in digits without a needless zero in front; none where they write no such number.
 pub fn number(bytes: &[u8], greatest: usize) -> Option<usize>
     ensures number { Says (UpTo greatest) decimal bytes.now result }
 {
@@ -34,7 +34,7 @@ pub fn number(bytes: &[u8], greatest: usize) -> Option<usize>
     (n <= greatest).then_some(n)
 }
 
-// A count, a crossing or a mark: one to six digits.
+// A count, the place of a crossing, or a mark: a number of one to six digits.
 pub(crate) fn six_digits(bytes: &[u8]) -> Option<usize>
     ensures number { Says Six decimal bytes.now result }
 {
@@ -51,7 +51,7 @@ pub(crate) fn coordinate(bytes: &[u8]) -> Option<i32>
     }
 }
 
-// The number below 0, or none for 0.
+// The number with a minus, which is below 0; none for 0.
 fn negated(n: usize) -> Option<i32>
     requires six { Six n }
     ensures negated { MatchOption result (n ≡ 0) (λ z. (0 < n) × (z ≡ neg_ℤ (pos n))) }
@@ -59,7 +59,7 @@ fn negated(n: usize) -> Option<i32>
     (n > 0).then_some(-(n as i32))
 }
 
-// Whether the field is the number n.
+// Whether the field is n, written in at most six digits.
 pub(crate) fn is_number(bytes: &[u8], n: usize) -> bool
     ensures same { MatchBool result (Six n × (bytes.now ≡ decimal n)) (Six n → bytes.now ≢ decimal n) }
 {

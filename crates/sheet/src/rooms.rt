@@ -10,7 +10,7 @@ use cc::{LIMIT, Turn};
 use models::counts::{PAIRS, THREES};
 use models::places::Place;
 
-// The values of a sheet, and the count of its marks where it is not their number.
+// The values of a sheet, and its count where that is not the number of its values.
 #[derive(Clone, Copy)]
 pub enum Values<'a> {
     Points(&'a [Place]),
@@ -25,7 +25,7 @@ pub enum Values<'a> {
 }
 
 // Room for the values of any one sheet.
-// Stay three lists of which one is in use: their memory is fixed, and values are lent as a slice of their own type.
+// It stays three lists, of which one is in use at a time: no memory is asked for, and values are lent as a slice of their own type.
 #[derive(Drop)]
 pub struct Room {
     places: [Place; LIMIT],
@@ -45,13 +45,13 @@ impl Room {
         }
     }
 
-    // Reads a sheet, and lends its values. A text that is refused here is refused whatever the lists that `read` is given.
+    // Reads a sheet, and lends its values. A text that is refused here is refused by the function `read` too, whatever lists that is given.
     pub fn read(&mut self, text: &[u8]) -> Result<Values<'_>, Fault>
         ensures told { MatchResult result (Tells text.now) (λ fault. (room : Lists) → Declines text.now room fault) }
     {
         let (Head { kind, count }, rest) = opening(text)?;
         let due = kind.due(count);
-        // stay three arms, as in `read`: each kind's values have a type of their own, and one function reads them
+        // stay three arms, as in the function `read`: the values of each kind have their own type, and `read_lines` reads all three
         match kind {
             Kind::Points => {
                 let places = &mut self.places[..due];

@@ -37,7 +37,7 @@ impl Triple {
     }
 }
 
-// A line that may be due in a sheet of so many marks: the at-th after the head, counted from 0. In a table it tells of the triple.
+// A line that may be due in a sheet of so many marks: the at-th after the head, counted from 0. In a table it says how the triple turns.
 #[derive(Clone, Copy)]
 pub(crate) struct Spot {
     pub(crate) count: usize,
@@ -48,7 +48,7 @@ pub(crate) struct Spot {
 }
 
 impl Spot {
-    // The line after the head.
+    // The first line after the head.
     pub(crate) fn first(count: usize) -> Spot
         ensures first { (result.count ≡ count) × (result.at ≡ 0) }
     {

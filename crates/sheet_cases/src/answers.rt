@@ -18,7 +18,7 @@ fn sheet_told(
 ) -> anyhow::Result<String> {
     let mut told = format!(in heap; "{kind} {count}")?;
     let due = kind.due(count);
-    // stay three loops: the values of each kind have a type of their own, and a place is written as two numbers
+    // stay three loops: the values of each kind have their own type, and a place is written as two numbers
     match kind {
         Kind::Points => {
             for Place { x, y } in places.iter().take(due) {
@@ -39,15 +39,15 @@ fn sheet_told(
     Ok(told)
 }
 
-// The number of a refusal and its first place.
-// stays this program's own: the table of cases tells no other places
+// `no`, the number of a refusal and its first place.
+// stays this program's own, beside the way in which a `Fault` prints: the table of cases has blanks for tabs, and always one place
 fn refusal_told(heap: Global, fault: Fault) -> anyhow::Result<String> {
     let number = fault.number();
     let [place, ..] = fault.places();
     Ok(format!(in heap; "no {number} {place}")?)
 }
 
-// The answer to the text, with lists of so many entries.
+// What `read` answers to the text, with lists of `room` entries.
 pub(crate) fn answer(heap: Global, room: usize, text: &[u8]) -> anyhow::Result<String> {
     let mut places = vec![in heap; Place { x: 0, y: 0 }; room]?;
     let mut crossings = vec![in heap; 0; room]?;

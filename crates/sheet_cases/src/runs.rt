@@ -1,4 +1,4 @@
-//! Runs over the cases of the table, and over the largest sheets and the longest texts.
+//! Runs over the cases of the table, over the largest sheet of each kind, and over texts of the greatest length and of one byte more.
 
 use super::answers::answer;
 use anyhow::{Context, anyhow};
@@ -6,7 +6,7 @@ use std::alloc::Global;
 use std::fmt::Write;
 use std::io::Read;
 
-// How many cases were run, and how many of them differ.
+// How many cases were run, and how many of them were answered otherwise than expected.
 #[derive(Drop)]
 struct Score {
     cases: usize,
@@ -34,8 +34,8 @@ impl Score {
 }
 
 // The bytes of a sheet, from its line in the table.
-// stays here, though `report_cases` has one that knows no `~`: two programs share only libraries, and a library for eight lines is longer
-// than both
+// stays here, though `report_cases` has the same without the `~`: two programs can share only what a library has, and a library for these
+// eight lines would be longer than they are twice
 fn decoded(heap: Global, sheet: &str) -> anyhow::Result<Vec<u8>> {
     let mut text = Vec::new(heap);
     for b in sheet.bytes() {
@@ -63,7 +63,7 @@ fn try_line(rt: &HostRuntime, line: &str, score: &mut Score) -> anyhow::Result<(
 fn largest_table(heap: Global) -> anyhow::Result<String> {
     let mut text = String::new(heap);
     text.push_str("T\t24\n")?;
-    // stay nested loops: each line tells three marks
+    // stay nested loops: each line has its own three marks, so that no line can be repeated
     for i in 0..24 {
         for j in i + 1..24 {
             for k in j + 1..24 {

@@ -1,4 +1,4 @@
--- The worked sections.
+-- The worked sections, case by case.
 use Rattle.std.proofs.Common.{ℕ, ◌<◌, Bool, not, ◌&&◌, T, eqb, ltb, leb, ◌≢◌, List, [], ◌∷◌, length, nat_abs, refl, subst, inl, inr, arith, lit<, lit≤, eqb→eq, ltb→lt, leb→le}
 use lib.Dec.{not_T}
 use lib.Dec.{eqb_refl}
@@ -97,7 +97,7 @@ one_more =
 off : On (1 ∷ 2 ∷ 3 ∷ 4 ∷ []) 0 → ⊥
 off o = on_all (λ c. c ≢ 0) (1 ∷ 2 ∷ 3 ∷ 4 ∷ []) 0 (λ e. omega arith, (λ e. omega arith, (λ e. omega arith, (λ e. omega arith, tt)))) o refl
 
--- of the ring without mark 2, only mark 0 leaves for it
+-- of the marks on the ring without mark 2, only mark 0 is not on the ring with it
 left_one : Lacking (1 ∷ 2 ∷ 3 ∷ 4 ∷ []) (0 ∷ 3 ∷ 4 ∷ 1 ∷ []) 1
 left_one = gone off (there (2, lit< tt, refl) (there (3, lit< tt, refl) (there (0, lit< tt, refl) none)))
 

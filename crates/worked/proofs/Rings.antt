@@ -33,7 +33,7 @@ module _ (m : Meaning) (s : ℕ → Bool) (marks : Marks m (of s)) where
             };
       }
 
--- no rising pair or three below n passes a test, and what holds of them passes it
+-- where no rising pair below n passes a test, what implies the test holds of none; and so for rising threes
 pub never_pair : (n : ℕ) (test : ℕ → ℕ → Bool) (P : ℕ → ℕ → Type 0) → ((i j : ℕ) → P i j → T (test i j))
     → T (all n (λ i. all n (λ j. not (ltb i j) || not (test i j)))) → NeverPair n P
 never_pair n test P passes t i hi j hj ij h =
@@ -46,6 +46,6 @@ never_triple n test P passes t i hi j hj ij k hk jk h =
     let t₂ = or_cases (not (ltb j k)) _ t₁ (λ l. T_not (ltb j k) l (lt→ltb j k jk)) in
     T_not (test i j k) t₂ (passes i j k h)
 
--- a number that is 0
+-- a number that is 0 passes the test for it
 pub zero_test : (z : ℤ) → z ≡ pos 0 → T (eqb (nat_abs z) 0)
 zero_test z e = subst (λ y. T (eqb (nat_abs y) 0)) (sym e) tt

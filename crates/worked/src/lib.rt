@@ -6,7 +6,7 @@ ghost use Rattle.worked.specs.Worked.{Worked};
 
 use models::catalogue::catalogue;
 
-// The worked sections; the list is the catalogue of the lawful patterns of five marks.
+// The statement about the worked sections. The list that is answered is the catalogue of the patterns of five marks that keep the laws.
 pub fn worked_sections() -> &'static [u16]
     ensures worked { Worked result.now }
 {
