@@ -1,4 +1,4 @@
--- What calls are worth, one after another. Assumes nothing.
+-- What calls are worth, one after another.
 use Rattle.std.proofs.Common.{◌≡◌, ℕ, zero, suc, ◌+◌, ◌*◌, ◌/◌, ◌<◌, ◌≤◌, Bool, false, ◌≢◌, List, [], ◌∷◌, length, get_or, take, drop, fold, sum, sym, refl, ap, drop-drop, length-drop, ◌∙◌, subst, add-zero, add_assoc, mod-eq_of_lt, zero-add, arith}
 use native.Mathlib.Nat.{mod-add-mod, add-mod-mod}
 use Rattle.std.specs.Simd.{first_chunks}

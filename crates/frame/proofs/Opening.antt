@@ -1,4 +1,4 @@
--- From what a text is opened as to what the calls are worth for it. Assumes nothing.
+-- From what a text is opened as to what the calls are worth for it.
 use Rattle.std.proofs.Common.{ℕ, List}
 use Rattle.cc.specs.declared.faults.Fault.{Fault}
 use Rattle.opening.specs.declared.opened.Opened.{Opened}

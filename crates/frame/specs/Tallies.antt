@@ -36,8 +36,8 @@ worth (declined f l) = number f
 abbrev pub wrapped : ℕ → ℕ
 wrapped n = n % 18446744073709551616
 
--- the calls, made one after another where s has the marks that are in, are worth so much: a pair is a letter and a number; a pair with no
--- letter is passed over, and so is a last byte with no partner
+-- what the calls are worth, made one after another where s has the marks that are in. A call is a pair of bytes, a letter and a number; a
+-- pair that begins with no letter of a call is passed over, and so is a last byte with no partner
 pub data Tallied (m : Meaning) : (ℕ → Bool) → List ℕ → ℕ → Type 0 where
   end : {s : ℕ → Bool} → Tallied m s [] 0
   odd : {s : ℕ → Bool} {b : ℕ} → Tallied m s (b ∷ []) 0
@@ -53,12 +53,12 @@ pub data Totals (m : Meaning) (calls : List ℕ) : ℕ → ℕ → Type 0 where
   never : Totals m calls 0 0
   again : {times n before : ℕ} → Totals m calls times before → Total m calls n → Totals m calls (suc times) (wrapped (before + n))
 
--- for a sheet's list: nothing where it is refused as a system, or what the calls are worth over the system that it means
+-- for a sheet's list: 0 where it is refused as a system, or what the calls are worth over the system that it means
 pub data Counted (k : Kind) (n : ℕ) (vs : List (Value k)) (calls : List ℕ) (times : ℕ) : ℕ → Type 0 where
   refused : (f : Fault) → Judged k n vs (Some f) → Counted k n vs calls times 0
   opened : {total : ℕ} → Judged k n vs None → Totals (system k n vs) calls times total → Counted k n vs calls times total
 
--- for a text: nothing where it is no sheet, whatever lists it were read into, or what the calls are worth for its list
+-- for a text: 0 where it is no sheet, whatever lists it were read into, or what the calls are worth for its list
 pub data Tally (text calls : List ℕ) (times : ℕ) : ℕ → Type 0 where
   refused : (f : Fault) → ((room : Lists) → Declines text room f) → Tally text calls times 0
   opened : {k : Kind} {n : ℕ} {vs : List (Value k)} {total : ℕ} → Holds text k n vs → Counted k n vs calls times total → Tally text calls times total

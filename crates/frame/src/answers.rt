@@ -18,7 +18,7 @@ fn sum_of(first: usize, list: &[usize]) -> usize
 }
 
 // What an add is worth: how many marks left, and one more on the edge.
-// stays a function: what it is worth is this tally's alone, and `Added` is another crate's
+// stays a function: `Added` belongs to another crate, and this worth is only the tally's
 fn of_added(added: Added) -> usize
     ensures worth { result ≡ wrapped (worth (told (Ok (reply.Added added)) [])) }
 {

@@ -30,7 +30,7 @@ use shell::console;
 use std::alloc::{AllocError, Global};
 use tallies::tally;
 
-// Copies the text to the front of `out`, if there is room for all of it; its length.
+// Copies the text to the front of `out`, if there is room for all of it; answers its length either way.
 fn copy(text: &[u8], out: &mut [u8]) -> usize
     ensures copied { Copied text.now out.old result out.new }
 {
@@ -72,9 +72,9 @@ pub extern "C" fn moarduft_console(
 }
 
 // Opens the sheet, makes the calls so many times, each time on an unused hull over its system, and adds up what the answers are worth,
-// modulo 2^64; 0 where the sheet is refused. A call is a letter and a number: `a` to add, `d` to drop, `p` to place, `n` for neighbours, `o`
-// for the outline, `r` for the rounds; the mark, or the length of the list of zeros that is handed over, at most 128. A pair with no letter
-// is passed over, and so is a last byte with no partner.
+// modulo 2^64; 0 where the sheet or its list is refused. A call is a letter and a number: `a` to add, `d` to drop, `p` to place, `n` for
+// neighbours, `o` for the outline, `r` for the rounds; the mark, or the length of the list of zeros that is handed over, at most 128. A pair
+// with no letter is passed over, and so is a last byte with no partner.
 #[unsafe(no_mangle)]
 pub extern "C" fn moarduft_tally(text: &[u8], calls: &[u8], times: usize) -> u64
     ensures tally { Tally text.now calls.now times result }

@@ -58,7 +58,7 @@ fn tally_over<S: CcSystem + Copy>(system: S, calls: &[u8], times: usize) -> usiz
     total
 }
 
-// Opens the sheet, and makes the calls; 0 where it is refused.
+// Opens the sheet, and makes the calls; 0 where it or its list is refused.
 pub(crate) fn tally(text: &[u8], calls: &[u8], times: usize) -> usize
     ensures tally { Tally text.now calls.now times result }
 {

@@ -23,6 +23,7 @@ fault_line word f = line word (number f ∷ places f)
 abbrev pub kind_line : Kind → ℕ → List ℕ
 kind_line k n = line (codes "kind" ++ 9 ∷ letter k ∷ []) (n ∷ [])
 
+-- the outline as it is read out
 abbrev pub ring_line : List ℕ → List ℕ
 ring_line ring = line (codes "ring") ring
 
@@ -34,5 +35,6 @@ round_lines rounds = each (λ p. line (codes "round") (p ∷ slice_index rounds 
 abbrev pub pair_lines : List (ℕ × ℕ) → List ℕ
 pair_lines pairs = each (λ k. line (codes "star") ((slice_index_or pairs k (0, 0)).0 ∷ (slice_index_or pairs k (0, 0)).1 ∷ [])) (length pairs)
 
+-- the length of the tape
 abbrev pub tape_line : ℕ → List ℕ
 tape_line total = line (codes "tape") (total ∷ [])

@@ -28,13 +28,13 @@ pub data Sections : (k : Kind) → List (Value k) → List ℕ → List ℕ → 
   of_network : {cs : List (Value Network)} {ring : List ℕ} → Sections Network cs ring []
   of_table : {ts : List (Value Table)} {ring : List ℕ} → Sections Table ts ring []
 
--- the report of a sheet's list: it is refused as a system, or all its marks are told
+-- the report of a sheet's list: its refusal as a system, or the lines of the system that it means
 pub data Told (k : Kind) (n : ℕ) (vs : List (Value k)) : List ℕ → Type 0 where
   refused : (f : Fault) → Judged k n vs (Some f) → Told k n vs (fault_line (codes "no") f)
   told : {ring rounds rest : List ℕ} → Judged k n vs None → Layered (system k n vs) ring rounds → Sections k vs ring rest
       → Told k n vs (kind_line k n ++ ring_line ring ++ round_lines rounds ++ rest)
 
--- the report of a text: it is no sheet, whatever lists it were read into, or its list is told
+-- the report of a text: its refusal as a sheet, whatever lists it were read into, or the report of its list
 pub data Reports (text : List ℕ) : List ℕ → Type 0 where
   refused : (f : Fault) → ((room : Lists) → Declines text room f) → Reports text (fault_line (codes "no") f)
   told : {k : Kind} {n : ℕ} {vs : List (Value k)} {out : List ℕ} → Holds text k n vs → Told k n vs out → Reports text out

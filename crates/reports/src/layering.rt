@@ -27,7 +27,7 @@ pub(crate) fn layers_of<S: CcSystem + Drop>(system: S) -> ConvexLayers
     ensures count { length result.rounds.items ≡ (S.CcSystem.meaning system).count }
 {
     let hull = full(system);
-    // stay cut from full lists: a call writes into a list that it is lent
+    // `ring` and `rounds` are made full and cut afterwards, since the calls write into a list that they are lent
     let mut ring = ArrayVec::from([0; LIMIT]);
     let Ok(len) = hull.outline(&mut ring) else {
         unreachable()

@@ -17,7 +17,7 @@ pub(crate) fn write_line(out: &mut String, word: &str, numbers: &[usize]) -> Res
 }
 
 // Writes a line for each mark: the mark and its round.
-// stays beside `write_pairs`: of one for both each caller would make the pairs, and name the word
+// stays beside `write_pairs`: one function for both would leave each caller to make the pairs and to name the word
 pub(crate) fn write_rounds(out: &mut String, rounds: &[usize]) -> Result<(), AllocError>
     ensures written { OnOk result (string_bytes out.new ≡ string_bytes out.old ++ round_lines rounds.now) }
 {

@@ -38,7 +38,7 @@ fn write_star(out: &mut String, points: &Points<'_>) -> Result<(), AllocError>
     if points.count() == 0 {
         return Ok(());
     }
-    // stays cut from a full list: `star` writes into one that it is lent
+    // `pairs` is made full and cut afterwards, since `star` writes into a list that it is lent
     let mut pairs = ArrayVec::from([(0, 0); LIMIT]);
     match star(points, 0, &mut pairs) {
         Ok(len) => {

@@ -1,4 +1,4 @@
--- Answers that are added to the text, line by line. Assumes nothing.
+-- Answers that are added to the text, line by line.
 use Rattle.std.proofs.Common.{Bor, Option, Some, None, MatchOption, subst₂, ◌≡◌, ℕ, ◌+◌, ◌<◌, Bool, ◌≢◌, List, [], ◌∷◌, ◌++◌, length, sym, refl, ap, ◌∙◌, subst, append_assoc, append-nil, arith, length-append}
 use Rattle.std.specs.Option.{option_or}
 use Rattle.laws.specs.Systems.{Meaning}

@@ -32,7 +32,7 @@ pub no_space : (bs : List ℕ) → (bs ≡ codes "census" → ⊥) → Lacks 32 
 no_space bs none l (Call c) wide is = lacks_not 32 (name c.verb) (decimal c.number) (subst (Lacks 32) is l)
 no_space bs none l Census u is = none is
 
--- a line with one is a call where its parts are a word and a number
+-- a line with a space is no call where its parts are not the word of a call and a number
 pub no_parts : (bs w d : List ℕ) → (bs ≡ codes "census" → ⊥) → Lacks 32 w × (bs ≡ w ++ 32 ∷ d) → ((v : Verb) (n : ℕ) → Wide n → w ≡ name v → d ≡ decimal n → ⊥) → (c : Command) → Fits c → bs ≡ written c → ⊥
 no_parts bs w d none cut parts (Call c) wide is =
     let e = cut_unique 32 w d (name c.verb) (decimal c.number) cut.0 (word_lacks c.verb) (sym cut.1 ∙ is) in

@@ -1,4 +1,4 @@
--- What is printed by the words of the layers. Assumes nothing.
+-- What is printed by the words of the layers.
 use Rattle.std.proofs.Common.{◌≡◌, ℕ, ◌≢◌, List, [], ◌∷◌, ◌++◌, Some, None, Option, sym, ap, ◌∙◌, subst}
 use Rattle.laws.specs.Systems.{Meaning}
 use Rattle.sheet.specs.Fields.{Lacks, Says}

@@ -1,4 +1,4 @@
--- The words that name layers. Assumes nothing.
+-- The words that name layers.
 use Rattle.std.proofs.Common.{◌≡◌, ℕ, zero, suc, ◌<◌, ◌≢◌, false, eqb, List, [], ◌∷◌, ◌++◌, map, length, get_or, Some, None, codes, decimal, All, sym, refl, ap, ◌∙◌, subst, append-nil, arith}
 use Rattle.std.specs.List.{slice_split, join_with_byte}
 use Rattle.std.proofs.lemmas.Bool.{ne_eqb}

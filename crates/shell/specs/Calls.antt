@@ -10,6 +10,7 @@ use Rattle.shell.specs.declared.commands.Verb.TheVariants.{Add, Drop, Place, Nei
 abbrev pub handed : ℕ → List ℕ
 handed room = replicate (min room 128) 0
 
+-- the call that a word and a number mean
 abbrev pub call_of : Verb → ℕ → TheCall
 call_of Add x = add x
 call_of Drop x = drop x
@@ -27,5 +28,6 @@ list_of Neighbours x = []
 list_of Outline room = handed room
 list_of Rounds room = handed room
 
+-- the same of the two together
 abbrev pub meant : Call → TheCall
 meant c = call_of c.verb c.number

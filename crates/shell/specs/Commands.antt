@@ -6,6 +6,7 @@ use Rattle.shell.specs.declared.commands.Verb.TheVariants.{Add, Drop, Place, Nei
 use Rattle.shell.specs.declared.commands.Command.{Command}
 use Rattle.shell.specs.declared.commands.Command.TheVariants.{Call, Census}
 
+-- the word of a call
 abbrev pub name : Verb → List ℕ
 name Add = codes "add"
 name Drop = codes "drop"
@@ -18,6 +19,7 @@ name Rounds = codes "rounds"
 abbrev pub Wide : ℕ → Type 0
 Wide n = n < 18446744073709551616
 
+-- the line that asks for it
 abbrev pub written : Command → List ℕ
 written (Call c) = name c.verb ++ 32 ∷ decimal c.number
 written Census = codes "census"

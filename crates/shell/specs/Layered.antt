@@ -12,19 +12,22 @@ use Rattle.shell.specs.Dialogues.{Dialogue}
 use Rattle.shell.specs.declared.layers.Layer.{Layer}
 use Rattle.shell.specs.declared.layers.Layer.TheVariants.{Mirror, Renaming}
 
+-- the code's layer as one of `laws`
 abbrev pub layer_of : Layer → TheLayer
 layer_of Mirror = mirror
 layer_of (Renaming names) = renaming (vec_items names)
 
+-- the same, where there is one
 abbrev pub layer_as : Option Layer → Option TheLayer
 layer_as None = None
 layer_as (Some l) = Some (layer_of l)
 
--- numbers, each after a comma; and parted by commas
+-- numbers, each after a comma
 abbrev pub commas : List ℕ → List ℕ
 commas [] = []
 commas (n ∷ ns) = 44 ∷ (decimal n ++ commas ns)
 
+-- numbers parted by commas
 abbrev pub joined : List ℕ → List ℕ
 joined [] = []
 joined (n ∷ ns) = decimal n ++ commas ns
@@ -52,10 +55,11 @@ Narrow (renaming xs) = Wides xs
 abbrev pub Unknown : List ℕ → Type 0
 Unknown word = (l : TheLayer) → Narrow l → word ≢ layer_word l
 
+-- the line of a refusal
 abbrev pub refusal_line : Fault → List ℕ
 refusal_line f = refused f ++ 10 ∷ []
 
--- the word, by its number, names no layer
+-- the line for a word that names no layer; n is the number of the word
 abbrev pub unknown_line : ℕ → List ℕ
 unknown_line n = ((63 ∷ 9 ∷ codes "layer") ++ tabbed (n ∷ [])) ++ 10 ∷ []
 

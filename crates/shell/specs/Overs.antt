@@ -13,6 +13,7 @@ module _ {S : Type 0} (below : Ghosts S) where
   over_meaning (Mirror m) = mirrored (below.meaning m.below)
   over_meaning (Renaming r) = renamed (below.meaning r.below) r.names.items
 
+  -- it keeps the laws
   pub over_lawful : (o : Over S below) → Lawful (over_meaning o)
   over_lawful (Mirror m) = mirror_lawful (below.lawful m.below)
   over_lawful (Renaming r) = renamed_lawful (below.lawful r.below) r.names.items

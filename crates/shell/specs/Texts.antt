@@ -7,6 +7,7 @@ use Rattle.hull.specs.declared.histories.Reply.TheVariants.{Added, Dropped, Plac
 use Rattle.shell.specs.declared.commands.Verb.{Verb}
 use Rattle.shell.specs.declared.commands.Verb.TheVariants.{Add, Drop, Place, Neighbours, Outline, Rounds}
 
+-- where a mark stands, as a field after a tab
 abbrev pub side_word : Side → List ℕ
 side_word edge = 9 ∷ codes "edge"
 side_word inside = 9 ∷ codes "inside"

@@ -12,7 +12,7 @@ use cc::{CcSystem, LIMIT};
 use hull::histories::Reply;
 use hull::hulls::DynamicHull;
 
-// Makes the list one of so many zeros, but of no more than a system may have marks.
+// Makes the list one of `room` zeros, but of at most 128.
 fn hand_over(list: &mut ArrayVec<usize, LIMIT>, room: usize)
     ensures zeros { list.new.items ≡ handed room }
 {

@@ -7,7 +7,7 @@ ghost use Rattle.shell.specs.Commands.{Fits, name, written};
 use sheet::numbers::{cut, number};
 use std::fmt;
 
-// A call that goes with a number: a mark, or the length of the list that is handed over.
+// The word of a call that goes with a number.
 #[derive(Clone, Copy, PartialEq, Eq, Debug)]
 pub enum Verb {
     Add,
@@ -28,8 +28,8 @@ const VERBS: [Verb; 6] = [
     Verb::Rounds,
 ];
 
-// A call with its number.
-// Stays a struct: each of the six has a number, and cases with one each would leave no list of the words.
+// A call: its word and its number, which is a mark, or the length of the list that is handed over.
+// Stays a struct: each of the six words goes with a number, and six cases with one each would leave no list of the words.
 #[derive(Clone, Copy, PartialEq, Eq, Debug)]
 pub struct Call {
     pub verb: Verb,
@@ -59,7 +59,7 @@ impl Verb {
     }
 }
 
-// Its word.
+// A verb prints as its word.
 impl fmt::Display for Verb {
     ghost output = { λ verb. Some (name verb) };
 

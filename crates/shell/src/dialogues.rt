@@ -15,7 +15,7 @@ use std::alloc::{AllocError, Global};
 use std::fmt::Write;
 
 // The first line, without the byte 10 that ends it, and what follows; none where nothing is left.
-// Stays beside the sheet's: there a line that lacks its byte 10 is a fault.
+// Stays beside the `next_line` of `sheet`: there a line that lacks its byte 10 is a fault.
 fn next_line(text: &[u8]) -> Option<(&[u8], &[u8])>
     ensures line { MatchOption result (text.now ≡ []) (λ p. Begins text.now p.0.now p.1.now) }
 {
@@ -74,8 +74,8 @@ pub fn converse<S: CcSystem + Drop>(
 {
     let mut hull = DynamicHull::over(system);
     let mut out = String::new(heap);
-    // Stays a loop by hand: tried as a `for` over `script.split_inclusive(..).enumerate()`, and the proof did not close,
-    // for in a generic function the check cannot type such an iterator.
+    // Stays a loop by hand: a `for` over `script.split_inclusive(..).enumerate()` is not proved, since in a generic function the check cannot
+    // type such an iterator.
     let mut rest = script;
     let mut number = 1;
     while let Some((line, after)) = next_line(rest) {

@@ -44,7 +44,7 @@ fn with_layer<S: CcSystem + Drop>(
 }
 
 // The names of a renaming, parted by commas; none where an entry is no number.
-// stays an `Option` within a result, as in `layer_of`: a word that names nothing is told of by its number, and not by why
+// stays an `Option` within a result, as in `layer_of`: what is printed for a word that names nothing is its number, and no reason
 fn names(heap: Global, text: &[u8]) -> Result<Option<Vec<usize>>, AllocError>
     ensures names { IfOk result (λ o. MatchOption o (Says SomeNames joined text.now None) (λ v. Says SomeNames joined text.now (Some v.items))) }
 {
