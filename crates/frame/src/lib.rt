@@ -4,8 +4,10 @@
 //!     size_t moarduft_report(const uint8_t *text, size_t text_len, uint8_t *out, size_t out_len);
 //!     size_t moarduft_console(const uint8_t *text, size_t text_len, const uint8_t *layers, size_t layers_len,
 //!                             const uint8_t *script, size_t script_len, uint8_t *out, size_t out_len);
+//!     size_t moarduft_star_console(const uint8_t *text, size_t text_len, size_t centre, const uint8_t *layers, size_t layers_len,
+//!                                  const uint8_t *script, size_t script_len, uint8_t *out, size_t out_len);
 //!
-//! Both answer the length of what they have to say: it stands at the front of `out` where there is room for it, and otherwise nothing is
+//! These answer the length of what they have to say: it stands at the front of `out` where there is room for it, and otherwise nothing is
 //! written, so that the call can be made again with more room. `SIZE_MAX` says that memory was wanting.
 //!
 //!     uint64_t moarduft_tally(const uint8_t *text, size_t text_len, const uint8_t *calls, size_t calls_len, size_t times);
@@ -21,12 +23,13 @@ mod tallies;
 ghost use Rattle.std.specs.Prelude.{◌≡◌, string_bytes, MatchResult};
 ghost use Rattle.reports.specs.Reports.{Reports};
 ghost use Rattle.shell.specs.Consoles.{Console};
+ghost use Rattle.shell.specs.Stars.{StarConsole};
 ghost use Rattle.frame.specs.Handing.{Copied, Handed};
 ghost use Rattle.frame.specs.Tallies.{OneTally, Tally};
 
 use cc::lists::copy_front;
 use reports::report;
-use shell::console;
+use shell::{console, star_console};
 use std::alloc::{AllocError, Global};
 use tallies::tally;
 
@@ -69,6 +72,21 @@ pub extern "C" fn moarduft_console(
     ensures console { Handed (Console text.now layers.now script.now) out.old result out.new }
 {
     handed(console(heap, text, layers, script), out)
+}
+
+// Writes what is printed for the star about a mark of a sheet's places, the words of layers over it, and a script of calls.
+#[unsafe(no_mangle)]
+pub extern "C" fn moarduft_star_console(
+    heap: Global,
+    text: &[u8],
+    centre: usize,
+    layers: &[u8],
+    script: &[u8],
+    out: &mut [u8],
+) -> usize
+    ensures console { Handed (StarConsole text.now centre layers.now script.now) out.old result out.new }
+{
+    handed(star_console(heap, text, centre, layers, script), out)
 }
 
 // Opens the sheet, makes the calls so many times, each time on an unused hull over its system, and adds up what the answers are worth,

@@ -1,5 +1,5 @@
 -- Recorded answers: lists that are handed over and come back, and histories that grow call by call.
-use Rattle.std.proofs.Common.{arith, ◌≡◌, ℕ, ◌+◌, ◌<◌, Bool, List, [], ◌∷◌, ◌++◌, map, length, get_or, take, drop as behind, set, ◌≤◌, Ok, Err, Result, sym, refl, ap, ◌∙◌, subst, subst₂, MatchResult}
+use Rattle.std.proofs.Common.{arith, ◌≡◌, ℕ, ◌+◌, ◌<◌, Bool, List, [], ◌∷◌, ◌++◌, map, length, get_or, take, drop as behind, set, ◌≤◌, IfOk, Ok, Err, Result, sym, refl, ap, ◌∙◌, subst, subst₂, MatchResult}
 use Rattle.std.specs.Result.{IsOkAnd}
 use Rattle.std.proofs.lemmas.List.{take_more, take_more_set, drop_more, drop-set-lt, take_all}
 use Rattle.laws.specs.Systems.{Meaning, Lawful}
@@ -67,6 +67,11 @@ ran_more m h s t c a r k =
 -- `Called`, of a call and an answer that are equal to those that the code answered
 pub called_by : (m : Meaning) (s t : ℕ → Bool) (c c' : TheCall) (a a' : TheAnswer) → c' ≡ c → a' ≡ a → Answers m s c a → Moved s t c a → Called m s t c' a'
 called_by m s t c c' a a' e d h k = subst₂ (Called m s t) (sym e) (sym d) (record { answers = h; marks = k })
+
+-- what follows from what holds of a value holds of a result that has that value
+pub made_so : {X E : Type 0} {P Q : X → Type 0} (r : Result X E) → ((x : X) → P x → Q x) → IfOk r P → IfOk r Q
+made_so (Ok x) f h = f x h
+made_so (Err e) f h = tt
 
 map_snoc : {X Y : Type 0} (f : X → Y) (l : List X) (x : X) → map f (l ++ x ∷ []) ≡ map f l ++ f x ∷ []
 map_snoc f [] x = refl

@@ -8,13 +8,16 @@ pub mod commands;
 pub mod dialogues;
 pub mod layers;
 mod over;
+mod stars;
 
 ghost use Rattle.std.specs.Prelude.{IfOk, string_bytes};
 ghost use Rattle.shell.specs.Consoles.{Console};
+ghost use Rattle.shell.specs.Stars.{StarConsole};
 
 use layers::{refusal, with_words};
-use opening::open;
+use opening::{Opened, open};
 use sheet::Room;
+use stars::{no_star, over_star};
 use std::alloc::{AllocError, Global};
 
 // Opens the sheet, puts the layers over its system, and makes the calls of the script; the error is want of memory.
@@ -31,5 +34,27 @@ pub fn console(
     match open(&mut room, text) {
         Ok(system) => with_words(heap, system, layers, script),
         Err(fault) => refusal(heap, fault),
+    }
+}
+
+// The same over the star about a mark of the sheet's places; the layers are put over the star.
+pub fn star_console(
+    heap: Global,
+    text: &[u8],
+    centre: usize,
+    layers: &[u8],
+    script: &[u8],
+) -> Result<String, AllocError>
+    ensures console { IfOk result (λ out. StarConsole text.now centre layers.now script.now (string_bytes out)) }
+{
+    let mut room = Room::new();
+    // stays a `match`, as in `console`; and in two steps, since the check knows of no kind in an arm of the two others within `Ok`
+    let system = match open(&mut room, text) {
+        Ok(system) => system,
+        Err(fault) => return refusal(heap, fault),
+    };
+    match system {
+        Opened::Points(points) => over_star(heap, &points, centre, layers, script),
+        Opened::Network(_) | Opened::Table(_) => no_star(heap),
     }
 }
