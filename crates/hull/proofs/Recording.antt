@@ -68,6 +68,11 @@ ran_more m h s t c a r k =
 pub called_by : (m : Meaning) (s t : ℕ → Bool) (c c' : TheCall) (a a' : TheAnswer) → c' ≡ c → a' ≡ a → Answers m s c a → Moved s t c a → Called m s t c' a'
 called_by m s t c c' a a' e d h k = subst₂ (Called m s t) (sym e) (sym d) (record { answers = h; marks = k })
 
+-- what follows from what holds of a value holds of a result that has that value
+pub made_so : {X E : Type 0} {P Q : X → Type 0} (r : Result X E) → ((x : X) → P x → Q x) → IfOk r P → IfOk r Q
+made_so (Ok x) f h = f x h
+made_so (Err e) f h = tt
+
 map_snoc : {X Y : Type 0} (f : X → Y) (l : List X) (x : X) → map f (l ++ x ∷ []) ≡ map f l ++ f x ∷ []
 map_snoc f [] x = refl
 map_snoc f (y ∷ l) x = ap (λ k. f y ∷ k) (map_snoc f l x)
