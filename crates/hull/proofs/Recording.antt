@@ -1,5 +1,5 @@
 -- Recorded answers: lists that are handed over and come back, and histories that grow call by call.
-use Rattle.std.proofs.Common.{arith, ◌≡◌, ℕ, ◌+◌, ◌<◌, Bool, List, [], ◌∷◌, ◌++◌, map, length, get_or, take, drop as behind, set, ◌≤◌, Ok, Err, Result, sym, refl, ap, ◌∙◌, subst, subst₂, MatchResult}
+use Rattle.std.proofs.Common.{arith, ◌≡◌, ℕ, ◌+◌, ◌<◌, Bool, List, [], ◌∷◌, ◌++◌, map, length, get_or, take, drop as behind, set, ◌≤◌, IfOk, Ok, Err, Result, sym, refl, ap, ◌∙◌, subst, subst₂, MatchResult}
 use Rattle.std.specs.Result.{IsOkAnd}
 use Rattle.std.proofs.lemmas.List.{take_more, take_more_set, drop_more, drop-set-lt, take_all}
 use Rattle.laws.specs.Systems.{Meaning, Lawful}
