@@ -152,6 +152,15 @@ pub fn sheet(random: &mut Random) -> Vec<u8> {
     })
 }
 
+/// A sheet of places; now and then another, or a damaged one.
+pub fn sheet_for_a_star(random: &mut Random) -> Vec<u8> {
+    match random.below(20) {
+        0 => sheet(random),
+        1 => damaged(random),
+        _ => written(&Sheet::Places(places(random))),
+    }
+}
+
 /// A sheet with some bytes changed, left out or put in, cut off, or with a line doubled or left out. Now and then it is still a sheet.
 pub fn damaged(random: &mut Random) -> Vec<u8> {
     let mut text = sheet(random);

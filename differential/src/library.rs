@@ -14,6 +14,17 @@ extern "C" {
         out: *mut u8,
         out_length: usize,
     ) -> usize;
+    fn moarduft_star_console(
+        text: *const u8,
+        text_length: usize,
+        centre: usize,
+        layers: *const u8,
+        layers_length: usize,
+        script: *const u8,
+        script_length: usize,
+        out: *mut u8,
+        out_length: usize,
+    ) -> usize;
     fn moarduft_tally(text: *const u8, text_length: usize, calls: *const u8, calls_length: usize, times: usize) -> u64;
 }
 
@@ -46,6 +57,12 @@ pub fn report(text: &[u8], room: usize) -> Vec<u8> {
 pub fn console(text: &[u8], layers: &[u8], script: &[u8], room: usize) -> Vec<u8> {
     handed(room, |out| unsafe {
         moarduft_console(text.as_ptr(), text.len(), layers.as_ptr(), layers.len(), script.as_ptr(), script.len(), out.as_mut_ptr(), out.len())
+    })
+}
+
+pub fn star_console(text: &[u8], centre: usize, layers: &[u8], script: &[u8], room: usize) -> Vec<u8> {
+    handed(room, |out| unsafe {
+        moarduft_star_console(text.as_ptr(), text.len(), centre, layers.as_ptr(), layers.len(), script.as_ptr(), script.len(), out.as_mut_ptr(), out.len())
     })
 }
 

@@ -88,6 +88,31 @@ fn compare_histories(histories: u64, seed: u64, given: impl Fn(&str) -> &str, co
     println!("under no layer {}, one {}, two {}", seen.layers[0], seen.layers[1], seen.layers[2]);
 }
 
+/// Histories as scripts over stars of places, under layers.
+fn compare_stars(histories: u64, seed: u64) {
+    let (mut calls, mut declined, mut told) = (0, 0, 0);
+    for case in seed..seed + histories {
+        let mut random = Random::new(case ^ 0x3C3C_0000_0000);
+        let text = cases::sheet_for_a_star(&mut random);
+        let count = match plain::read(&text) {
+            Ok(Sheet::Places(places)) => places.len(),
+            _ => 0,
+        };
+        let strangers = usize::from(random.one_in(20) || count == 0);
+        let centre = random.below(count + strangers);
+        let (words, count) = cases::words(&mut random, count.saturating_sub(1));
+        let script = cases::script(&mut random, count, if count > 40 { 60 } else { 200 });
+        let wanted = texts::star_console(&text, centre, &words, &script);
+        let got = library::star_console(&text, centre, words.as_bytes(), script.as_bytes(), room(&mut random));
+        let input = [&text[..], format!("star {centre}\n{words}\n{script}").as_bytes()].concat();
+        same("a history over a star", case, &input, &got, wanted.as_bytes());
+        told += u64::from(wanted.lines().count() > 1);
+        calls += wanted.lines().count();
+        declined += wanted.lines().filter(|line| line.contains("\tno\t")).count();
+    }
+    println!("{histories} histories over stars, {told} of them of more than one line; {calls} lines, {declined} calls declined");
+}
+
 /// Histories as pairs of bytes, by what their answers are worth.
 fn compare_tallies(histories: u64, seed: u64) {
     let mut calls_made = 0;
@@ -115,6 +140,7 @@ fn main() {
             let (sheets, histories, seed) = (number(2, 1_000), number(3, 1_000), number(4, 1));
             compare_sheets(sheets, seed, library::report);
             compare_histories(histories, seed, |words| words, |text, words, script, room| library::console(text, words.as_bytes(), script, room));
+            compare_stars(histories, seed);
             compare_tallies(histories, seed);
         }
         Some("programs") => {

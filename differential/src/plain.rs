@@ -440,6 +440,13 @@ fn others(places: &[(i64, i64)], c: usize) -> Answer<Vec<usize>> {
     Ok(others)
 }
 
+/// The star about mark c as a system of the other points, in rising order.
+pub fn star_system(places: &[(i64, i64)], c: usize) -> Answer<System> {
+    let others = others(places, c)?;
+    let place = |mark: usize| places[others[mark]];
+    Ok(System::of(others.len(), |p, q, r| circle(places[c], place(p), place(q), place(r)) > 0))
+}
+
 /// The Delaunay pairs about mark c.
 pub fn star(places: &[(i64, i64)], c: usize) -> Answer<Vec<(usize, usize)>> {
     let others = others(places, c)?;

@@ -59,7 +59,23 @@ fn number(word: &str) -> Option<usize> {
 
 /// What the console prints for a sheet, the words of layers, and a script.
 pub fn console(sheet: &[u8], words: &str, script: &str) -> String {
-    match opened(sheet, words) {
+    let system = plain::read(sheet).and_then(|sheet| plain::open(&sheet));
+    over(system, words, script)
+}
+
+/// The same over the star about a mark of the sheet's places.
+pub fn star_console(text: &[u8], centre: usize, words: &str, script: &str) -> String {
+    let opened = plain::read(text).and_then(|sheet| plain::open(&sheet).map(|_| sheet));
+    match opened {
+        Ok(Sheet::Places(places)) => over(plain::star_system(&places, centre), words, script),
+        Ok(_) => line(&words_of("?", &["star"])),
+        Err(fault) => line(&refusal(&fault)),
+    }
+}
+
+/// What is printed over a system, or its refusal.
+fn over(system: Answer<System>, words: &str, script: &str) -> String {
+    match system.map_err(Stop::from).and_then(|system| opened(system, words)) {
         Ok(Some(system)) => dialogue(system, script),
         Ok(None) => line(&words_of("?", &["layer", "1"])),
         Err(Stop::Refused(fault)) => line(&refusal(&fault)),
@@ -79,9 +95,8 @@ impl From<Refusal> for Stop {
     }
 }
 
-/// The system that the calls are made on, under the layers that the words name, the first directly over the sheet's; none where the first word names no layer.
-fn opened(sheet: &[u8], words: &str) -> Result<Option<System>, Stop> {
-    let system = plain::open(&plain::read(sheet)?)?;
+/// The system that the calls are made on, under the layers that the words name, the first directly over the system; none where the first word names no layer.
+fn opened(system: System, words: &str) -> Result<Option<System>, Stop> {
     if words.is_empty() {
         return Ok(Some(system));
     }
