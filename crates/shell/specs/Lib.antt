@@ -5,3 +5,4 @@ pub mod Dialogues
 pub mod Layered
 pub mod Consoles
 pub mod Overs
+pub mod Theorems

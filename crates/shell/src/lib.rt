@@ -11,6 +11,7 @@ mod over;
 
 ghost use Rattle.std.specs.Prelude.{IfOk, string_bytes};
 ghost use Rattle.shell.specs.Consoles.{Console};
+ghost use Rattle.shell.specs.Theorems.{OneConsole, OneDialogue, OneTalk};
 
 use layers::{refusal, with_words};
 use opening::open;
@@ -33,3 +34,11 @@ pub fn console(
         Err(fault) => refusal(heap, fault),
     }
 }
+
+// The contract of `console` leaves one text for each sheet, words of layers and script. Over any system the words and the script have one
+// text, and so has a script alone, whichever marks are in.
+pub fn consoles_stand()
+    ensures dialogues { OneDialogue }
+    ensures talks { OneTalk }
+    ensures one { OneConsole }
+{}
