@@ -1,5 +1,5 @@
 -- A text has one report.
-use Rattle.std.proofs.Common.{◌≡◌, ℕ, List, ◌++◌, length, Some, None, Ok, codes, Option, sym, refl, ap, subst, ap₂, arith, ltb→lt}
+use Rattle.std.proofs.Common.{◌≡◌, ℕ, List, ◌++◌, length, Some, None, Ok, codes, sym, refl, ap, subst, ap₂, arith, ltb→lt}
 use Rattle.cc.specs.declared.faults.Fault.{Fault}
 use Rattle.laws.specs.Systems.{Lawful}
 use Rattle.models.specs.declared.places.Place.{Place}
@@ -17,7 +17,7 @@ use Rattle.sheet.specs.declared.Kind.{Kind}
 use Rattle.sheet.specs.declared.Kind.TheVariants.{Points, Network, Table}
 use Rattle.reports.specs.Lines.{fault_line, kind_line, ring_line, round_lines, pair_lines, tape_line}
 use Rattle.reports.specs.Layers.{first}
-use Rattle.opening.specs.Opening.{Judged, system}
+use Rattle.opening.specs.Opening.{system}
 use Rattle.reports.specs.Reports.{StarTold, no_centre, pairs, TapeTold, tape, Sections, of_points, of_network, of_table, Told, OneReport}
 use Rattle.reports.specs.Reports as report
 use Rattle.reports.proofs.Adding.{first_marks, ring_few}

@@ -1,4 +1,4 @@
--- A script prints one text, under any layers, and words name one pile of layers.
+-- Over a system a script has one text, and the words of layers and a script have one text.
 use Rattle.std.proofs.Common.{◌≡◌, ℕ, ◌+◌, Bool, ◌≢◌, ◌⊎◌, List, [], ◌∷◌, ◌++◌, Some, None, codes, Option, sym, refl, ap, ◌∙◌, subst, subst₂, inl, inr, arith}
 use Rattle.laws.specs.Systems.{Lawful, Meaning, Same}
 use Rattle.laws.specs.Outlines.{Marks}
@@ -163,7 +163,7 @@ module _ (words : List ℕ) where
         let (first, second) = cut_unique 32 (layer_word l) rest (layer_word k) word (layer_lacks l n) (layer_lacks k narrow) (sym d ∙ e) in
         (one_layer l k n narrow first, second)
 
--- the same words as in one way of printing allow no other way
+-- for words of each kind, a text that is printed in any way is printed in the way of that kind
 module _ {words script : List ℕ} {m : Meaning} where
   none_named : {out : List ℕ} → words ≡ [] → Talk words script m out → Layered script m [] out
   none_named e (no_word d h) = h

@@ -78,7 +78,7 @@ decimals_same (x ∷ xs) [] u v e = absurd (omega (arith, ap length e))
 decimals_same (x ∷ xs) (y ∷ ys) u v e =
     λ i. decimal_injective x y u.0 v.0 (ap (λ l. get_or l 0 []) e) i ∷ decimals_same xs ys u.1 v.1 (ap (drop 1) e) i
 
--- parted by commas too
+-- and so are numbers that are written alike with commas between them
 joined_same : (xs ys : List ℕ) → Wides xs → Wides ys → joined xs ≡ joined ys → xs ≡ ys
 joined_same [] [] u v e = refl
 joined_same [] (y ∷ ys) u v e = absurd (joined_some y ys v.0 (sym e))

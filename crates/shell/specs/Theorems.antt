@@ -7,7 +7,7 @@ use Rattle.shell.specs.Dialogues.{Dialogue}
 use Rattle.shell.specs.Layered.{Talk}
 use Rattle.shell.specs.Consoles.{Console}
 
--- over a system, while marks of it are in, a script has one text, whatever number its first line has
+-- over a system, where the marks that are in are its, a script has one text; n is the number of its first line
 abbrev pub OneDialogue : Type 0
 OneDialogue =
     (m : Meaning) (s : ℕ → Bool) (n : ℕ) (script out out' : List ℕ) → Lawful m → Marks m (of s)
