@@ -1,5 +1,4 @@
 pub mod Counting
 pub mod Copying
 pub mod Opening
-pub mod Sameness
 pub mod OneTally

@@ -6,12 +6,12 @@ use Rattle.laws.specs.Theorems.{of}
 use Rattle.hull.specs.Histories.{Called}
 use Rattle.sheet.specs.Sheets.{Value}
 use Rattle.sheet.specs.declared.Kind.{Kind}
-use Rattle.reports.proofs.OneSheet.{not_refused, same_sheet}
-use Rattle.reports.proofs.OneReport.{accepted_lawful, not_judged}
+use Rattle.opening.proofs.OneSheet.{not_refused, same_sheet}
+use Rattle.opening.proofs.OneJudgement.{accepted_lawful, not_judged}
 use Rattle.shell.specs.Calls.{call_of}
 use Rattle.shell.specs.declared.commands.Verb.{Verb}
 use Rattle.shell.specs.declared.commands.Verb.TheVariants.{Add, Drop, Place, Neighbours, Outline, Rounds}
-use Rattle.frame.proofs.Sameness.{called_marks, called_same, same_self}
+use Rattle.shell.proofs.Sameness.{called_marks, called_same, same_self}
 use Rattle.frame.specs.Tallies.{Counted, OneTally, Tallied, Total, Totals, again, call, end, letter, never, no_call, odd, total, worth, wrapped}
 use Rattle.frame.specs.Tallies as tally
 

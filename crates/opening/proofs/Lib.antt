@@ -1,0 +1,2 @@
+pub mod OneSheet
+pub mod OneJudgement

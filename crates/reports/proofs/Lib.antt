@@ -1,5 +1,4 @@
 pub mod Texts
 pub mod Adding
 pub mod Telling
-pub mod OneSheet
 pub mod OneReport

@@ -1,20 +1,13 @@
 -- A text has one report.
-use Rattle.std.proofs.Common.{◌≡◌, ℕ, List, ◌++◌, length, Some, None, Ok, codes, Option, sym, refl, ap, subst, ap₂, arith, ltb→lt}
+use Rattle.std.proofs.Common.{◌≡◌, ℕ, List, ◌++◌, length, Some, None, Ok, codes, sym, refl, ap, subst, ap₂, arith, ltb→lt}
 use Rattle.cc.specs.declared.faults.Fault.{Fault}
 use Rattle.laws.specs.Systems.{Lawful}
 use Rattle.models.specs.declared.places.Place.{Place}
 use Rattle.models.specs.Places.{plane}
-use Rattle.models.proofs.Plane.{lawful_plane}
-use Rattle.models.proofs.Networked.{network_lawful_few}
 use Rattle.runs.specs.Calls.{RingOf}
 use Rattle.runs.proofs.Standing.{ring_in, ring_same}
 use Rattle.runs.proofs.Decided.{entries_same}
-use Rattle.systems.specs.Tables as table
-use Rattle.systems.specs.Networks as network
 use Rattle.systems.specs.Openings.{Starred, StarRefused}
-use Rattle.systems.proofs.OneJudgement as points
-use Rattle.systems.proofs.Refusing as crossings
-use Rattle.systems.proofs.Judging as turns
 use Rattle.systems.proofs.OneStarJudgement.{one_star_judgement}
 use Rattle.sections.specs.Tapes.{Taped, TapeMeasured}
 use Rattle.sections.proofs.Lengths.{one_tape_answer}
@@ -24,26 +17,12 @@ use Rattle.sheet.specs.declared.Kind.{Kind}
 use Rattle.sheet.specs.declared.Kind.TheVariants.{Points, Network, Table}
 use Rattle.reports.specs.Lines.{fault_line, kind_line, ring_line, round_lines, pair_lines, tape_line}
 use Rattle.reports.specs.Layers.{first}
-use Rattle.opening.specs.Opening.{Judged, system}
+use Rattle.opening.specs.Opening.{system}
 use Rattle.reports.specs.Reports.{StarTold, no_centre, pairs, TapeTold, tape, Sections, of_points, of_network, of_table, Told, OneReport}
 use Rattle.reports.specs.Reports as report
 use Rattle.reports.proofs.Adding.{first_marks, ring_few}
-use Rattle.reports.proofs.OneSheet.{not_refused, one_refusal, same_sheet}
-
--- a list is judged in one way
-pub one_judged : (k : Kind) (n : ℕ) (vs : List (Value k)) (f g : Option Fault) → Judged k n vs f → Judged k n vs g → f ≡ g
-one_judged Points n ps f g h j = points.one_judgement ps f g h j
-one_judged Network n cs f g h j = crossings.one_judgement n cs f g h j
-one_judged Table n ts f g h j = turns.one_judgement n ts f g h j
-
-pub not_judged : (k : Kind) (n : ℕ) (vs : List (Value k)) (f : Fault) → Judged k n vs (Some f) → Judged k n vs None → ⊥
-not_judged k n vs f h j = let z : ◌≡◌ {A = ℕ} 0 1 = cc (one_judged k n vs (Some f) None h j) in omega arith
-
--- and where it is accepted, it means a system
-pub accepted_lawful : (k : Kind) (n : ℕ) (vs : List (Value k)) → Judged k n vs None → Lawful (system k n vs)
-accepted_lawful Points n ps h = lawful_plane ps ∣ h ∣₁
-accepted_lawful Network n cs (network.accepted few net) = network_lawful_few n cs few net.legal
-accepted_lawful Table n ts (table.accepted fits L) = L
+use Rattle.opening.proofs.OneSheet.{not_refused, one_refusal, same_sheet}
+use Rattle.opening.proofs.OneJudgement.{accepted_lawful, not_judged, one_judged}
 
 pub not_starred : (ps : List Place) (c : ℕ) (f : Fault) → StarRefused ps c f → Starred ps c → ⊥
 not_starred ps c f r s = let z : ◌≡◌ {A = ℕ} 0 1 = cc (one_star_judgement ps c (Some f) None r s) in omega arith

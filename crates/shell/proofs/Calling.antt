@@ -19,7 +19,7 @@ lacks_by b (x ∷ bs) t =
     lacks_cons b x bs (λ e. T_not (eqb b x) n (subst (λ z. T (eqb b z)) (sym e) (eqb_refl b))) (lacks_by b bs k)
 
 -- a space stands in no word
-word_lacks : (v : Verb) → Lacks 32 (name v)
+pub word_lacks : (v : Verb) → Lacks 32 (name v)
 word_lacks Add = lacks_by 32 (name Add) tt
 word_lacks Drop = lacks_by 32 (name Drop) tt
 word_lacks Place = lacks_by 32 (name Place) tt

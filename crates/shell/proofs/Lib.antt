@@ -5,3 +5,7 @@ pub mod Layering
 pub mod Words
 pub mod Talking
 pub mod Opening
+pub mod Sameness
+pub mod OneWord
+pub mod OneTalk
+pub mod OneConsole

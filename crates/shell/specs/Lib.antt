@@ -6,3 +6,4 @@ pub mod Layered
 pub mod Consoles
 pub mod Overs
 pub mod Stars
+pub mod Theorems

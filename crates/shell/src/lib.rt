@@ -13,6 +13,7 @@ mod stars;
 ghost use Rattle.std.specs.Prelude.{IfOk, string_bytes};
 ghost use Rattle.shell.specs.Consoles.{Console};
 ghost use Rattle.shell.specs.Stars.{StarConsole};
+ghost use Rattle.shell.specs.Theorems.{OneConsole, OneDialogue, OneTalk};
 
 use layers::{refusal, with_words};
 use opening::{Opened, open};
@@ -58,3 +59,11 @@ pub fn star_console(
         Opened::Network(_) | Opened::Table(_) => no_star(heap),
     }
 }
+
+// The contract of `console` leaves one text for each sheet, words of layers and script. Over any system the words and the script have one
+// text, and so has a script alone, whichever marks are in.
+pub fn consoles_stand()
+    ensures dialogues { OneDialogue }
+    ensures talks { OneTalk }
+    ensures one { OneConsole }
+{}

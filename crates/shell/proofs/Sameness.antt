@@ -1,8 +1,11 @@
--- Two meanings of one system have the same laws and answers.
-use Rattle.std.proofs.Common.{◌≡◌, ℕ, ◌<◌, ◌≤◌, Bool, sym, refl, ◌∙◌, subst, inl, inr, ⊎_elim}
-use Rattle.laws.specs.Systems.{Lawful, Meaning, Same, Three}
+-- Two meanings of one system have the same laws, layers and answers.
+use Rattle.std.proofs.Common.{◌≡◌, ℕ, ◌<◌, ◌≤◌, Bool, cond, ◌&&◌, leb, List, length, ap, sym, refl, ◌∙◌, subst, inl, inr, ⊎_elim}
+use Rattle.laws.specs.Systems.{Lawful, Left, Meaning, Same, Three}
 use Rattle.laws.specs.Outlines.{Marks}
 use Rattle.laws.specs.Theorems.{of}
+use Rattle.laws.specs.Layers.{different, mirrored, named, renamed}
+use Rattle.laws.proofs.Mirrors.{from_mirror, in_mirror}
+use Rattle.laws.proofs.Piles.{renamed_three}
 use Rattle.runs.specs.Calls.{Call, add, drop, place, neighbours, outline, rounds, Answer, Answers, adds, drops, stranger, already_in, absent}
 use Rattle.runs.specs.Runs.{Agree, Question, place?, neighbours?, outline?, rounds?}
 use Rattle.runs.proofs.Agreeing.{agree, agree_marks, agree_ring}
@@ -12,6 +15,16 @@ use Rattle.hull.specs.Histories.{Called, Moved, comes, goes, declines, asks}
 
 pub same_self : {m : Meaning} → Same m m
 same_self = record { count = refl; turns = λ p q r. (λ l. l, λ l. l) }
+
+pub same_back : {m n : Meaning} → Same m n → Same n m
+same_back e = record { count = sym e.count; turns = λ p q r. ((e.turns p q r).1, (e.turns p q r).0) }
+
+pub same_on : {k m n : Meaning} → Same k m → Same m n → Same k n
+same_on d e =
+    record {
+      count = d.count ∙ e.count;
+      turns = λ p q r. (λ l. (e.turns p q r).0 ((d.turns p q r).0 l), λ l. (d.turns p q r).1 ((e.turns p q r).1 l));
+    }
 
 pub same_lawful : {m n : Meaning} → Same m n → Lawful m → Lawful n
 same_lawful e L =
@@ -24,6 +37,31 @@ same_lawful e L =
       transitive = λ {t} {s} {p} {q} {r} a b c d f.
           (e.turns t p r).0 (L.transitive ((e.turns t s p).1 a) ((e.turns t s q).1 b) ((e.turns t s r).1 c) ((e.turns t p q).1 d) ((e.turns t q r).1 f));
     }
+
+-- ---- under layers
+
+pub same_mirrored : {m n : Meaning} → Same m n → Same (mirrored m) (mirrored n)
+same_mirrored {m} {n} e =
+    record {
+      count = e.count;
+      turns = λ p q r. (λ l. in_mirror n ((e.turns p r q).0 (from_mirror m l)), λ l. in_mirror m ((e.turns p r q).1 (from_mirror n l)));
+    }
+
+module _ (xs : List ℕ) where
+  renamed_count : {m n : Meaning} → Same m n → (renamed m xs).count ≡ (renamed n xs).count
+  renamed_count e = ap (λ c. cond (leb (length xs) 128 && different c xs) (length xs) 0) e.count
+
+  renamed_turn : {m n : Meaning} → Same m n → (p q r : ℕ) → Left (renamed m xs) p q r → Left (renamed n xs) p q r
+  renamed_turn {m} {n} e p q r l =
+      record {
+        three = subst (λ c. Three c p q r) (renamed_count e) l.three;
+        turns = ((e.turns (named xs p) (named xs q) (named xs r)).0 (record { three = renamed_three m xs l.three; turns = l.turns })).turns;
+      }
+
+  pub same_renamed : {m n : Meaning} → Same m n → Same (renamed m xs) (renamed n xs)
+  same_renamed e = record { count = renamed_count e; turns = λ p q r. (renamed_turn e p q r, renamed_turn (same_back e) p q r) }
+
+-- ---- the answers
 
 same_agree : {m n : Meaning} → Same m n → (s : ℕ → Bool) → Agree m n s
 same_agree e s = record { count = e.count; turns = λ p q r _ _ _. e.turns p q r }
