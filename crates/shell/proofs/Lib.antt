@@ -9,3 +9,4 @@ pub mod Sameness
 pub mod OneWord
 pub mod OneTalk
 pub mod OneConsole
+pub mod OneStar

@@ -6,6 +6,7 @@ use Rattle.laws.specs.Theorems.{of}
 use Rattle.shell.specs.Dialogues.{Dialogue}
 use Rattle.shell.specs.Layered.{Talk}
 use Rattle.shell.specs.Consoles.{Console}
+use Rattle.shell.specs.Stars.{StarConsole}
 
 -- over a system, where the marks that are in are its, a script has one text; n is the number of its first line
 abbrev pub OneDialogue : Type 0
@@ -22,3 +23,9 @@ OneTalk =
 -- a sheet, the words of layers and a script have one text
 abbrev pub OneConsole : Type 0
 OneConsole = (text words script out out' : List ℕ) → Console text words script out → Console text words script out' → out ≡ out'
+
+-- a sheet, the centre of a star, the words of layers and a script have one text
+abbrev pub OneStarConsole : Type 0
+OneStarConsole =
+    (text : List ℕ) (c : ℕ) (words script out out' : List ℕ)
+    → StarConsole text c words script out → StarConsole text c words script out' → out ≡ out'

@@ -13,7 +13,7 @@ mod stars;
 ghost use Rattle.std.specs.Prelude.{IfOk, string_bytes};
 ghost use Rattle.shell.specs.Consoles.{Console};
 ghost use Rattle.shell.specs.Stars.{StarConsole};
-ghost use Rattle.shell.specs.Theorems.{OneConsole, OneDialogue, OneTalk};
+ghost use Rattle.shell.specs.Theorems.{OneConsole, OneDialogue, OneStarConsole, OneTalk};
 
 use layers::{refusal, with_words};
 use opening::{Opened, open};
@@ -60,10 +60,11 @@ pub fn star_console(
     }
 }
 
-// The contract of `console` leaves one text for each sheet, words of layers and script. Over any system the words and the script have one
-// text, and so has a script alone, whichever marks are in.
+// The contracts of `console` and `star_console` leave one text for each sheet, centre, words of layers and script. Over any system the words
+// and the script have one text, and so has a script alone, whichever marks are in.
 pub fn consoles_stand()
     ensures dialogues { OneDialogue }
     ensures talks { OneTalk }
     ensures one { OneConsole }
+    ensures one_of_star { OneStarConsole }
 {}
