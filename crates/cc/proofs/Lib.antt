@@ -1,3 +1,4 @@
 mod Mirroring
 mod Naming
 pub mod Printing
+pub mod OneJudgement

@@ -18,3 +18,7 @@ pub data Judged (n : ℕ) (xs : List ℕ) : Option Fault → Type 0 where
   too_long : 128 < length xs → Judged n xs (Some (Misnamed 128))
   bad : {i : ℕ} → length xs ≤ 128 → First (length xs) (Bad n xs) i → Judged n xs (Some (Misnamed i))
   accepted : length xs ≤ 128 → Never (length xs) (Bad n xs) → Judged n xs None
+
+-- each list is judged in one way, and in no other
+abbrev pub OneJudgement : Type 0
+OneJudgement = (n : ℕ) (xs : List ℕ) (f g : Option Fault) → Judged n xs f → Judged n xs g → f ≡ g

@@ -5,7 +5,7 @@ ghost use Rattle.laws.specs.Systems.{Same};
 ghost use Rattle.laws.specs.Layers.{different, renamed};
 ghost use Rattle.laws.proofs.Piles.{renamed_lawful};
 ghost use Rattle.laws.specs.First.{First, Never};
-ghost use Rattle.cc.specs.Names.{Bad, Judged};
+ghost use Rattle.cc.specs.Names.{Bad, Judged, OneJudgement};
 
 use super::checks::Checked;
 use super::faults::Fault;
@@ -85,6 +85,11 @@ impl<S: CcSystem> CcSystem for Renaming<S> {
         self.below.turn(*p, *q, *r)
     }
 }
+
+// The contract of `Renaming::over` leaves one fault, or none, for each list.
+pub fn renamings_stand()
+    ensures one { OneJudgement }
+{}
 
 // The list, held as a renaming of a system with `count` marks, or why it is none.
 fn held(count: usize, names: &[usize]) -> Result<ArrayVec<usize, LIMIT>, Fault>

@@ -11,3 +11,4 @@ pub mod Names
 pub mod Renaming
 pub mod Piles
 pub mod Theorems
+pub mod Firsts

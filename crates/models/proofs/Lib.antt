@@ -1,7 +1,6 @@
 pub mod Polynomials
 pub mod Signs
 pub mod Plane
-pub mod Firsts
 pub mod StarLaws
 pub mod Circles
 pub mod Tests

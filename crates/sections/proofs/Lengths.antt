@@ -19,7 +19,7 @@ use Rattle.cc.specs.declared.faults.Fault.TheVariants.{Stranger}
 use Rattle.models.specs.declared.places.Place.{Place}
 use Rattle.laws.specs.First.{Never}
 use Rattle.models.specs.Places.{place}
-use Rattle.models.proofs.Firsts.{one_first}
+use Rattle.laws.proofs.Firsts.{one_first}
 use Rattle.sections.specs.Tapes.{Root, squared, entry, follower, Strange, Taped, TapeRefused, TapeMeasured, OneTapeAnswer}
 
 -- ---- roots

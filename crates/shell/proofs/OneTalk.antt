@@ -6,10 +6,9 @@ use Rattle.laws.specs.Theorems.{of}
 use Rattle.laws.specs.Layers.{Layer}
 use Rattle.laws.proofs.Mirrors.{mirror_lawful}
 use Rattle.laws.proofs.Piles.{renamed_lawful}
-use Rattle.cc.specs.Names.{Judged, too_long, bad, accepted}
+use Rattle.cc.specs.Names.{Judged}
+use Rattle.cc.proofs.OneJudgement.{not_judged, one_judgement}
 use Rattle.cc.specs.declared.faults.Fault.{Fault}
-use Rattle.cc.specs.declared.faults.Fault.TheVariants.{Misnamed}
-use Rattle.models.proofs.Firsts.{one_first}
 use Rattle.hull.specs.Histories.{Called}
 use Rattle.sheet.specs.Fields.{Lacks}
 use Rattle.sheet.specs.Cuts.{cut_none, cut_unique, not_nil}
@@ -98,21 +97,6 @@ one_dialogue m s n script out out' L marks d d' = dialogue_same same_self L mark
 
 -- ---- under layers
 
--- a renaming is judged in one way
-one_naming : {n : ℕ} {xs : List ℕ} {f g : Option Fault} → Judged n xs f → Judged n xs g → f ≡ g
-one_naming (too_long h) (too_long k) = refl
-one_naming (too_long h) (bad k first) = absurd (omega arith)
-one_naming (too_long h) (accepted k never) = absurd (omega arith)
-one_naming (bad h first) (too_long k) = absurd (omega arith)
-one_naming (bad h first) (bad k first') = ap (λ i. Some (Misnamed i)) (one_first first first')
-one_naming (bad {i = i} h first) (accepted k never) = absurd (never i first.within first.holds)
-one_naming (accepted h never) (too_long k) = absurd (omega arith)
-one_naming (accepted h never) (bad {i = i} k first) = absurd (never i first.within first.holds)
-one_naming (accepted h never) (accepted k never') = refl
-
-not_named : {n : ℕ} {xs : List ℕ} {f : Fault} → Judged n xs (Some f) → Judged n xs None → ⊥
-not_named h k = let z : ◌≡◌ {A = ℕ} 0 1 = cc (one_naming h k) in omega arith
-
 module _ (script : List ℕ) where
   -- one text is printed over layers, whichever meaning of its own system each has
   layered_same : {m m' : Meaning} {ls : List Layer} {out out' : List ℕ} → Same m m' → Lawful m
@@ -121,10 +105,10 @@ module _ (script : List ℕ) where
   layered_same same L (mirror_over h) (mirror_over h') = layered_same (same_mirrored same) (mirror_lawful L) h h'
   layered_same same L (renaming_over n xs j e h) (renaming_over n' ys j' e' h') =
       layered_same (same_on e (same_on (same_renamed xs same) (same_back e'))) (same_lawful (same_back e) (renamed_lawful L xs)) h h'
-  layered_same same L (renaming_over n xs j e h) (misnamed ys f j') = absurd (not_named j' (subst (λ c. Judged c xs None) same.count j))
-  layered_same same L (misnamed xs f j) (renaming_over n ys j' e h) = absurd (not_named (subst (λ c. Judged c xs (Some f)) same.count j) j')
+  layered_same same L (renaming_over n xs j e h) (misnamed ys f j') = absurd (not_judged _ _ _ j' (subst (λ c. Judged c xs None) same.count j))
+  layered_same same L (misnamed xs f j) (renaming_over n ys j' e h) = absurd (not_judged _ _ _ (subst (λ c. Judged c xs (Some f)) same.count j) j')
   layered_same same L (misnamed xs f j) (misnamed ys g j') =
-      let e = one_naming (subst (λ c. Judged c xs (Some f)) same.count j) j' in ap refusal_line cc
+      let e = one_judgement _ _ _ _ (subst (λ c. Judged c xs (Some f)) same.count j) j' in ap refusal_line cc
 
 -- ---- by the words that name them
 
