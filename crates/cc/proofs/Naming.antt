@@ -1,13 +1,12 @@
 -- Renamings: what the judgement of a list says of the system that the renaming is, and what that system tells of three marks.
 use Rattle.std.proofs.Common.{◌≡◌, ℕ, get_or, subst, ◌<◌, ◌≤◌, T, List, [], length, Some, None, Option, sym, refl, inl, inr, arith}
-use mathlib.Core.Logic.Iff
 use Rattle.std.proofs.lemmas.List.{get_or_read_under}
 use Rattle.std.proofs.ByRecursion.{All-get_or}
 use Rattle.laws.specs.Systems.{Meaning, Left, Same}
-use Rattle.laws.specs.Layers.{named, different, namable, renamed}
+use Rattle.laws.specs.Layers.{named, different, renamed}
 use Rattle.laws.proofs.Names.{different_apart, different_if}
 use Rattle.laws.proofs.Renaming.{named_apart}
-use Rattle.laws.proofs.Piles.{passes, accepted_count, refused_count, long_count, renamed_three, renamed_left, renamed_right}
+use Rattle.laws.proofs.Piles.{accepted_count, refused_count, long_count, renamed_three, renamed_left, renamed_right}
 use Rattle.cc.specs.declared.Turn.{Turn}
 use Rattle.cc.specs.declared.Turn.TheVariants.{Left as to-left, Right as to-right}
 use Rattle.cc.specs.declared.faults.Fault.{Fault}

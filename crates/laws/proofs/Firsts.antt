@@ -1,6 +1,6 @@
 -- At most one number, one pair and one triple is the first in rising order for which a property holds.
-use Rattle.std.proofs.Common.{◌≡◌, ℕ, ◌<◌, sym, subst, arith}
-use Rattle.laws.specs.First.{First, FirstPair, FirstTriple, NeverPair, NeverTriple}
+use Rattle.std.proofs.Common.{◌≡◌, ℕ, ◌<◌, arith}
+use Rattle.laws.specs.First.{First, FirstPair, FirstTriple}
 
 same : {i j : ℕ} → (i < j → ⊥) → (j < i → ⊥) → i ≡ j
 same h k = omega arith

@@ -3,7 +3,7 @@ use Rattle.std.proofs.Common.{◌≡◌, ℕ, ◌<◌, ◌⊎◌, ◌↔◌, Lis
 use Prim.Native.Nat.{Ordering}
 use Rattle.laws.specs.Systems.{Meaning, Lawful}
 use Rattle.models.specs.Spread.{Turns, system}
-use Rattle.models.specs.Rising.{Before, Group, LawfulAmong, AllLawful, FirstLawless}
+use Rattle.models.specs.Rising.{Before, Group, LawfulAmong, FirstLawless}
 use Rattle.models.specs.Catalogue.{four, five, pattern}
 use Rattle.models.proofs.Patterns.{among_pattern}
 use Rattle.models.proofs.Spread.{Compared, less, same, more, compared}

@@ -7,11 +7,11 @@ ghost use Rattle.sheet.specs.Fields.{Lacks, Says, Six, SixSigned, UpTo};
 // The greatest number of six digits.
 const SIX_NINES: usize = 999_999;
 
-// The bytes before the first byte that is `mark`, and those after it; none where no byte is.
-pub fn cut(bytes: &[u8], mark: u8) -> Option<(&[u8], &[u8])>
-    ensures parts { MatchOption result (Lacks mark bytes.now) (λ p. Lacks mark p.0.now × (bytes.now ≡ p.0.now ++ mark ∷ p.1.now)) }
+// The bytes before the first separator, and those after it; none where there is no separator.
+pub fn cut(bytes: &[u8], separator: u8) -> Option<(&[u8], &[u8])>
+    ensures parts { MatchOption result (Lacks separator bytes.now) (λ p. Lacks separator p.0.now × (bytes.now ≡ p.0.now ++ separator ∷ p.1.now)) }
 {
-    let at = bytes.iter().position(|b| *b == mark)?;
+    let at = bytes.iter().position(|b| *b == separator)?;
     Some((&bytes[..at], &bytes[at + 1..]))
 }
 
