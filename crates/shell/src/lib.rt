@@ -68,3 +68,37 @@ pub fn consoles_stand()
     ensures one { OneConsole }
     ensures one_of_star { OneStarConsole }
 {}
+
+#[cfg(test)]
+mod tests {
+    use super::*;
+
+    // The five places whose report stands in docs/REPORT.md.
+    const FIVE: &[u8] = b"P\t5\nm\t3\t2\nm\t0\t0\nm\t10\t1\nm\t8\t9\nm\t1\t7\n";
+
+    const CALLS: &[u8] = b"add 0\nadd 1\nadd 2\nadd 3\noutline 4\nplace 4\n";
+
+    #[test]
+    fn a_star_keeps_an_outline(rt: HostRuntime) {
+        let said = star_console(rt.alloc(), FIVE, 0, b"", CALLS);
+        let due =
+            "add\t0\tedge\t0\nadd\t1\tedge\t0\nadd\t2\tedge\t0\nadd\t3\tedge\t0\noutline\t4\t4\t0\t1\t2\t3\nplace\t4\tno\t9\t4\n";
+        assert!(rt; said.is_ok_and(|said| said.as_str() == due));
+        let said = star_console(rt.alloc(), FIVE, 0, b"mirror", CALLS);
+        let due =
+            "add\t0\tedge\t0\nadd\t1\tedge\t0\nadd\t2\tedge\t0\nadd\t3\tedge\t0\noutline\t4\t4\t0\t3\t2\t1\nplace\t4\tno\t9\t4\n";
+        assert!(rt; said.is_ok_and(|said| said.as_str() == due));
+    }
+
+    #[test]
+    fn a_star_is_refused(rt: HostRuntime) {
+        let said = star_console(rt.alloc(), FIVE, 5, b"", CALLS);
+        assert!(rt; said.is_ok_and(|said| said.as_str() == "no\t9\t5\n"));
+        let square = b"P\t4\nm\t0\t0\nm\t2\t0\nm\t2\t2\nm\t0\t2\n";
+        let said = star_console(rt.alloc(), square, 0, b"", CALLS);
+        assert!(rt; said.is_ok_and(|said| said.as_str() == "no\t6\t1\t2\t3\n"));
+        let network = b"W\t2\nc\t0\n";
+        let said = star_console(rt.alloc(), network, 0, b"", CALLS);
+        assert!(rt; said.is_ok_and(|said| said.as_str() == "?\tstar\n"));
+    }
+}
