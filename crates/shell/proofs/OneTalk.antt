@@ -1,5 +1,5 @@
 -- Over a system a script has one text, and the words of layers and a script have one text.
-use Rattle.std.proofs.Common.{◌≡◌, ℕ, ◌+◌, Bool, ◌≢◌, ◌⊎◌, List, [], ◌∷◌, ◌++◌, Some, None, codes, Option, sym, refl, ap, ◌∙◌, subst, subst₂, inl, inr, arith}
+use Rattle.std.proofs.Common.{◌≡◌, ℕ, ◌+◌, Bool, ◌≢◌, ◌⊎◌, List, [], ◌∷◌, ◌++◌, Some, None, codes, sym, refl, ap, ◌∙◌, subst, subst₂, inl, inr}
 use Rattle.laws.specs.Systems.{Lawful, Meaning, Same}
 use Rattle.laws.specs.Outlines.{Marks}
 use Rattle.laws.specs.Theorems.{of}
@@ -8,7 +8,6 @@ use Rattle.laws.proofs.Mirrors.{mirror_lawful}
 use Rattle.laws.proofs.Piles.{renamed_lawful}
 use Rattle.cc.specs.Names.{Judged}
 use Rattle.cc.proofs.OneJudgement.{not_judged, one_judgement}
-use Rattle.cc.specs.declared.faults.Fault.{Fault}
 use Rattle.hull.specs.Histories.{Called}
 use Rattle.sheet.specs.Fields.{Lacks}
 use Rattle.sheet.specs.Cuts.{cut_none, cut_unique, not_nil}

@@ -1,14 +1,15 @@
 -- A line is one call, a word names one layer, and marks have one census.
-use Rattle.std.proofs.Common.{◌≡◌, ℕ, zero, suc, ◌/◌, ◌%◌, ◌^◌, ◌<◌, Bool, cond, eqb, ◌≢◌, List, [], ◌∷◌, ◌++◌, map, length, get_or, drop, codes, decimal, sym, refl, ap, ◌∙◌, subst, arith, length-append}
+use Rattle.std.proofs.Common.{◌≡◌, ℕ, zero, suc, ◌/◌, ◌%◌, ◌^◌, ◌<◌, cond, eqb, ◌≢◌, List, [], ◌∷◌, ◌++◌, map, length, get_or, drop, codes, decimal, sym, refl, ap, ◌∙◌, subst, arith, length-append}
 use Rattle.std.proofs.lemmas.Fmt.{decimal_injective, decimal_nonempty}
 use Rattle.std.proofs.lemmas.Nat.Bits.{same_from_bits_below}
 use Rattle.laws.specs.Layers.{Layer, mirror, renaming}
-use Rattle.hull.specs.Words.{bit, Census}
+use Rattle.hull.specs.Words.{bit}
 use Rattle.sheet.specs.Fields.{Lacks}
 use Rattle.sheet.specs.Cuts.{cut_unique, lacks_append, lacks_cons, lacks_not, not_nil}
 use Rattle.shell.specs.Commands.{Wide, name, written}
 use Rattle.shell.specs.Layered.{Narrow, Wides, commas, joined, layer_word}
 use Rattle.shell.specs.declared.commands.Call.{Call as CallWith}
+use Rattle.shell.specs.Theorems.{OneCensus}
 use Rattle.shell.specs.declared.commands.Verb.{Verb}
 use Rattle.shell.specs.declared.commands.Verb.TheVariants.{Add, Drop, Place, Neighbours, Outline, Rounds}
 use Rattle.shell.specs.declared.commands.Command.TheVariants.{Call}
@@ -116,7 +117,7 @@ same_word v w fits fits' e =
     same_from_bits_below 64 v w fits fits' (λ k h. test_one (v / 2 ^ k % 2) (w / 2 ^ k % 2) (omega arith) (omega arith) (e k h))
 
 -- marks have one census
-pub one_census : (s : ℕ → Bool) (q r : ℕ × ℕ × ℕ) → Census s q → Census s r → q ≡ r
+pub one_census : OneCensus
 one_census s q r c d =
     let low = same_word q.0 r.0 c.low_fits d.low_fits (λ k h. c.low k h ∙ sym (d.low k h)) in
     let high = same_word q.1 r.1 c.high_fits d.high_fits (λ k h. c.high k h ∙ sym (d.high k h)) in

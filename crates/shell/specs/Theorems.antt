@@ -1,5 +1,6 @@
 -- What is printed is one text.
 use Rattle.std.specs.Prelude.{◌≡◌, ℕ, Bool, List}
+use Rattle.hull.specs.Words.{Census}
 use Rattle.laws.specs.Systems.{Lawful, Meaning}
 use Rattle.laws.specs.Outlines.{Marks}
 use Rattle.laws.specs.Theorems.{of}
@@ -7,6 +8,10 @@ use Rattle.shell.specs.Dialogues.{Dialogue}
 use Rattle.shell.specs.Layered.{Talk}
 use Rattle.shell.specs.Consoles.{Console}
 use Rattle.shell.specs.Stars.{StarConsole}
+
+-- marks have one census
+abbrev pub OneCensus : Type 0
+OneCensus = (s : ℕ → Bool) (q r : ℕ × ℕ × ℕ) → Census s q → Census s r → q ≡ r
 
 -- over a system, where the marks that are in are its, a script has one text; n is the number of its first line
 abbrev pub OneDialogue : Type 0

@@ -13,7 +13,7 @@ mod stars;
 ghost use Rattle.std.specs.Prelude.{IfOk, string_bytes};
 ghost use Rattle.shell.specs.Consoles.{Console};
 ghost use Rattle.shell.specs.Stars.{StarConsole};
-ghost use Rattle.shell.specs.Theorems.{OneConsole, OneDialogue, OneStarConsole, OneTalk};
+ghost use Rattle.shell.specs.Theorems.{OneCensus, OneConsole, OneDialogue, OneStarConsole, OneTalk};
 
 use layers::{refusal, with_words};
 use opening::{Opened, open};
@@ -61,8 +61,9 @@ pub fn star_console(
 }
 
 // The contracts of `console` and `star_console` leave one text for each sheet, centre, words of layers and script. Over any system the words
-// and the script have one text, and so has a script alone, whichever marks are in.
+// and the script have one text, and so has a script alone, whichever marks are in; and the marks have one census.
 pub fn consoles_stand()
+    ensures censuses { OneCensus }
     ensures dialogues { OneDialogue }
     ensures talks { OneTalk }
     ensures one { OneConsole }
