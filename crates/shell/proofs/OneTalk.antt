@@ -16,7 +16,7 @@ use Rattle.cc.specs.Texts.{tabbed}
 use Rattle.shell.specs.Texts.{shown}
 use Rattle.shell.specs.Calls.{meant}
 use Rattle.shell.specs.Dialogues.{Begins, ended, last, Dialogue, end, more, Exchange, calls, counts, no_call}
-use Rattle.shell.specs.Layered.{Layered, bare, mirror_over, renaming_over, misnamed, First, only, spaced, Narrow, Unknown}
+use Rattle.shell.specs.Layered.{Layered, bare, mirror_over, renaming_over, misnamed, First, only, spaced, WideNames, Unknown}
 use Rattle.shell.specs.Layered.{Talk, no_word, one_word, two_words, first_unknown, second_unknown, layer_word, refusal_line, unknown_line}
 use Rattle.shell.specs.Theorems.{OneDialogue, OneTalk}
 use Rattle.shell.specs.declared.commands.Call.{Call as CallWith}
@@ -123,7 +123,7 @@ first_all word words (spaced rest l is) k = absurd (cut_none words word rest k i
 
 module _ (words : List ℕ) where
   -- the words are one layer's
-  module _ (l : Layer) (narrow : Narrow l) (e : words ≡ layer_word l) where
+  module _ (l : Layer) (narrow : WideNames l) (e : words ≡ layer_word l) where
     no_space : Lacks 32 words
     no_space = subst (Lacks 32) (sym e) (layer_lacks l narrow)
 
@@ -135,13 +135,13 @@ module _ (words : List ℕ) where
     known word f un = un l narrow (first_all word words f no_space ∙ e)
 
   -- they are a layer's word, a space, and more
-  module _ (k : Layer) (narrow : Narrow k) (word : List ℕ) (e : words ≡ layer_word k ++ 32 ∷ word) where
+  module _ (k : Layer) (narrow : WideNames k) (word : List ℕ) (e : words ≡ layer_word k ++ 32 ∷ word) where
     -- so does the first word of these
     known_first : (first : List ℕ) → First first words → Unknown first → ⊥
     known_first first f un = un k narrow (first_same first words (layer_word k) word f (layer_lacks k narrow) e)
 
     -- the layer is the same by every such cut, and what follows the space too
-    two_words_same : (l : Layer) (rest : List ℕ) → Narrow l → words ≡ layer_word l ++ 32 ∷ rest → (l ≡ k) × (rest ≡ word)
+    two_words_same : (l : Layer) (rest : List ℕ) → WideNames l → words ≡ layer_word l ++ 32 ∷ rest → (l ≡ k) × (rest ≡ word)
     two_words_same l rest n d =
         let (first, second) = cut_unique 32 (layer_word l) rest (layer_word k) word (layer_lacks l n) (layer_lacks k narrow) (sym d ∙ e) in
         (one_layer l k n narrow first, second)
@@ -155,14 +155,14 @@ module _ {words script : List ℕ} {m : Meaning} where
   none_named e (first_unknown w some f un) = absurd (some e)
   none_named e (second_unknown k w n d un) = absurd (not_nil 32 (layer_word k) w (sym d ∙ e))
 
-  one_named : {out : List ℕ} (l : Layer) → Narrow l → words ≡ layer_word l → Talk words script m out → Layered script m (l ∷ []) out
+  one_named : {out : List ℕ} (l : Layer) → WideNames l → words ≡ layer_word l → Talk words script m out → Layered script m (l ∷ []) out
   one_named l u e (no_word d h) = absurd (layer_some l (sym e ∙ d))
   one_named {out} l u e (one_word k n d h) = subst (λ k. Layered script m (k ∷ []) out) (one_layer k l n u (sym d ∙ e)) h
   one_named l u e (two_words j k n v d h) = absurd (unspaced words l u e (layer_word j) (layer_word k) d)
   one_named l u e (first_unknown w some f un) = absurd (known words l u e w f un)
   one_named l u e (second_unknown k w n d un) = absurd (unspaced words l u e (layer_word k) w d)
 
-  two_named : {out : List ℕ} (k l : Layer) → Narrow k → Narrow l → words ≡ layer_word k ++ 32 ∷ layer_word l
+  two_named : {out : List ℕ} (k l : Layer) → WideNames k → WideNames l → words ≡ layer_word k ++ 32 ∷ layer_word l
       → Talk words script m out → Layered script m (k ∷ l ∷ []) out
   two_named k l u v e (no_word d h) = absurd (not_nil 32 (layer_word k) (layer_word l) (sym e ∙ d))
   two_named k l u v e (one_word j n d h) = absurd (unspaced words j n d (layer_word k) (layer_word l) e)
@@ -180,7 +180,7 @@ module _ {words script : List ℕ} {m : Meaning} where
   first_fails word some f un (first_unknown w some' f' un') = refl
   first_fails word some f un (second_unknown k w n d un') = absurd (known_first words k n w d word f un)
 
-  second_fails : {out : List ℕ} (k : Layer) (word : List ℕ) → Narrow k → words ≡ layer_word k ++ 32 ∷ word → Unknown word
+  second_fails : {out : List ℕ} (k : Layer) (word : List ℕ) → WideNames k → words ≡ layer_word k ++ 32 ∷ word → Unknown word
       → Talk words script m out → out ≡ unknown_line 2
   second_fails k word u e un (no_word d h) = absurd (not_nil 32 (layer_word k) word (sym e ∙ d))
   second_fails k word u e un (one_word j n d h) = absurd (unspaced words j n d (layer_word k) word e)

@@ -7,7 +7,7 @@ use Rattle.hull.specs.Words.{bit}
 use Rattle.sheet.specs.Fields.{Lacks}
 use Rattle.sheet.specs.Cuts.{cut_unique, lacks_append, lacks_cons, lacks_not, not_nil}
 use Rattle.shell.specs.Commands.{Wide, name, written}
-use Rattle.shell.specs.Layered.{Narrow, Wides, commas, joined, layer_word}
+use Rattle.shell.specs.Layered.{WideNames, Wides, commas, joined, layer_word}
 use Rattle.shell.specs.declared.commands.Call.{Call as CallWith}
 use Rattle.shell.specs.Theorems.{OneCensus}
 use Rattle.shell.specs.declared.commands.Verb.{Verb}
@@ -58,7 +58,7 @@ joined_lacks b low (x ∷ xs) wides =
     lacks_append b (decimal x) (commas xs) (wide_lacks b x (omega arith) wides.0) (commas_lack b low xs wides.1)
 
 -- a word that names a layer holds no space
-pub layer_lacks : (l : Layer) → Narrow l → Lacks 32 (layer_word l)
+pub layer_lacks : (l : Layer) → WideNames l → Lacks 32 (layer_word l)
 layer_lacks mirror n = lacks_by 32 (codes "mirror") tt
 layer_lacks (renaming xs) wides =
     lacks_append 32 (codes "rename") (58 ∷ joined xs) (lacks_by 32 (codes "rename") tt)
@@ -89,7 +89,7 @@ joined_same (x ∷ xs) (y ∷ ys) u v e =
     (sym (entries_joined (x ∷ xs) ((λ z. not_nil x [] xs z), u)) ∙ ap entries e ∙ entries_joined (y ∷ ys) ((λ z. not_nil y [] ys z), v))
 
 -- a word names one layer
-pub one_layer : (k l : Layer) → Narrow k → Narrow l → layer_word k ≡ layer_word l → k ≡ l
+pub one_layer : (k l : Layer) → WideNames k → WideNames l → layer_word k ≡ layer_word l → k ≡ l
 one_layer mirror mirror u v e = refl
 one_layer mirror (renaming xs) u v e =
     absurd (lacks_not 58 (codes "rename") (joined xs) (subst (Lacks 58) e (lacks_by 58 (codes "mirror") tt)))

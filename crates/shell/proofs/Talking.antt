@@ -3,11 +3,11 @@ use Rattle.std.proofs.Common.{◌≡◌, ℕ, ◌≢◌, List, [], ◌∷◌, �
 use Rattle.laws.specs.Systems.{Meaning}
 use Rattle.sheet.specs.Fields.{Lacks, Says}
 use Rattle.sheet.specs.Cuts.{not_nil}
-use Rattle.shell.specs.Layered.{Layered, Narrow, Talk, first_unknown, layer_as, layer_of, layer_word, one_word, only, second_unknown, spaced, two_words, unknown_line}
+use Rattle.shell.specs.Layered.{Layered, WideNames, Talk, first_unknown, layer_as, layer_of, layer_word, one_word, only, second_unknown, spaced, two_words, unknown_line}
 use Rattle.shell.specs.declared.layers.Layer.{Layer}
 
 abbrev Named : List ℕ → Option Layer → Type 0
-Named word o = Says Narrow layer_word word (layer_as o)
+Named word o = Says WideNames layer_word word (layer_as o)
 
 module _ (words script : List ℕ) (m : Meaning) (out : List ℕ) where
   -- a single word
@@ -23,7 +23,7 @@ module _ (words script : List ℕ) (m : Meaning) (out : List ℕ) where
     by_unknown_first is e = subst (Talk words script m) (sym e) (first_unknown word (λ z. not_nil 32 word rest (sym cut.1 ∙ z)) (spaced rest cut.0 cut.1) (subst (Named word) is first))
 
     module _ (k : Layer) (is : o ≡ Some k) (p : Option Layer) (second : Named rest p) where
-      known : Narrow (layer_of k) × (word ≡ layer_word (layer_of k))
+      known : WideNames (layer_of k) × (word ≡ layer_word (layer_of k))
       known = subst (Named word) is first
 
       pub by_two : (l : Layer) → p ≡ Some l → Layered script m (layer_of k ∷ layer_of l ∷ []) out → Talk words script m out

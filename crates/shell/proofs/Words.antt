@@ -11,7 +11,7 @@ use Rattle.laws.specs.Layers.{Layer, mirror, renaming}
 use Rattle.sheet.specs.Fields.{Lacks, Says}
 use Rattle.sheet.specs.Cuts.{cut_unique, lacks_not, not_nil}
 use Rattle.shell.specs.Commands.{Wide}
-use Rattle.shell.specs.Layered.{Narrow, SomeNames, Wides, joined, layer_word}
+use Rattle.shell.specs.Layered.{WideNames, SomeNames, Wides, joined, layer_word}
 use Rattle.sheet.specs.FieldsLemmas.{own}
 use Rattle.shell.proofs.Calling.{lacks_by}
 
@@ -69,7 +69,7 @@ wides_more [] n wides wide = (wide, tt)
 wides_more (x ∷ xs) n wides wide = (wides.0, wides_more xs n wides.1 wide)
 
 -- a word with no colon names a mirror or nothing
-pub no_colon : (word : List ℕ) → (word ≡ codes "mirror" → ⊥) → Lacks 58 word → (l : Layer) → Narrow l → word ≡ layer_word l → ⊥
+pub no_colon : (word : List ℕ) → (word ≡ codes "mirror" → ⊥) → Lacks 58 word → (l : Layer) → WideNames l → word ≡ layer_word l → ⊥
 no_colon word none l mirror u is = none is
 no_colon word none l (renaming xs) u is = lacks_not 58 (codes "rename") (joined xs) (subst (Lacks 58) is l)
 
@@ -78,17 +78,17 @@ module _ (word head text : List ℕ) (none : word ≡ codes "mirror" → ⊥) (c
   colon : (xs : List ℕ) → word ≡ layer_word (renaming xs) → (head ≡ codes "rename") × (text ≡ joined xs)
   colon xs is = cut_unique 58 head text (codes "rename") (joined xs) cut.0 (lacks_by 58 (codes "rename") tt) (sym cut.1 ∙ is)
 
-  pub no_rename : (head ≡ codes "rename" → ⊥) → (l : Layer) → Narrow l → word ≡ layer_word l → ⊥
+  pub no_rename : (head ≡ codes "rename" → ⊥) → (l : Layer) → WideNames l → word ≡ layer_word l → ⊥
   no_rename other mirror u is = none is
   no_rename other (renaming xs) u is = other (colon xs is).0
 
-  pub no_names : text ≢ [] → Says SomeNames joined text None → (l : Layer) → Narrow l → word ≡ layer_word l → ⊥
+  pub no_names : text ≢ [] → Says SomeNames joined text None → (l : Layer) → WideNames l → word ≡ layer_word l → ⊥
   no_names some bad mirror u is = none is
   no_names some bad (renaming []) u is = some (colon [] is).1
   no_names some bad (renaming (n ∷ ns)) u is = bad (n ∷ ns) ((λ z. not_nil n [] ns z), u) (colon (n ∷ ns) is).1
 
-  pub rename_nothing : head ≡ codes "rename" → text ≡ [] → (xs : List ℕ) → xs ≡ [] → Says Narrow layer_word word (Some (renaming xs))
+  pub rename_nothing : head ≡ codes "rename" → text ≡ [] → (xs : List ℕ) → xs ≡ [] → Says WideNames layer_word word (Some (renaming xs))
   rename_nothing h t xs e = subst (λ l. Wides l × (word ≡ codes "rename" ++ 58 ∷ joined l)) (sym e) (tt, cut.1 ∙ (λ i. h i ++ 58 ∷ t i))
 
-  pub renames : head ≡ codes "rename" → (xs : List ℕ) → Says SomeNames joined text (Some xs) → Says Narrow layer_word word (Some (renaming xs))
+  pub renames : head ≡ codes "rename" → (xs : List ℕ) → Says SomeNames joined text (Some xs) → Says WideNames layer_word word (Some (renaming xs))
   renames h xs says = (says.0.1, cut.1 ∙ (λ i. h i ++ 58 ∷ says.1 i))

@@ -47,13 +47,13 @@ layer_word mirror = codes "mirror"
 layer_word (renaming xs) = codes "rename" ++ 58 ∷ joined xs
 
 -- its names have 64 bits
-abbrev pub Narrow : TheLayer → Type 0
-Narrow mirror = Unit {0}
-Narrow (renaming xs) = Wides xs
+abbrev pub WideNames : TheLayer → Type 0
+WideNames mirror = Unit {0}
+WideNames (renaming xs) = Wides xs
 
 -- the word names no layer
 abbrev pub Unknown : List ℕ → Type 0
-Unknown word = (l : TheLayer) → Narrow l → word ≢ layer_word l
+Unknown word = (l : TheLayer) → WideNames l → word ≢ layer_word l
 
 -- the line of a refusal
 abbrev pub refusal_line : Fault → List ℕ
@@ -88,7 +88,7 @@ pub data First : List ℕ → List ℕ → Type 0 where
 -- prints a line with its number, and all that follows the first space is the second word
 pub data Talk (words script : List ℕ) (m : Meaning) : List ℕ → Type 0 where
   no_word : {out : List ℕ} → words ≡ [] → Layered script m [] out → Talk words script m out
-  one_word : (l : TheLayer) {out : List ℕ} → Narrow l → words ≡ layer_word l → Layered script m (l ∷ []) out → Talk words script m out
-  two_words : (k l : TheLayer) {out : List ℕ} → Narrow k → Narrow l → words ≡ layer_word k ++ 32 ∷ layer_word l → Layered script m (k ∷ l ∷ []) out → Talk words script m out
+  one_word : (l : TheLayer) {out : List ℕ} → WideNames l → words ≡ layer_word l → Layered script m (l ∷ []) out → Talk words script m out
+  two_words : (k l : TheLayer) {out : List ℕ} → WideNames k → WideNames l → words ≡ layer_word k ++ 32 ∷ layer_word l → Layered script m (k ∷ l ∷ []) out → Talk words script m out
   first_unknown : (word : List ℕ) → words ≢ [] → First word words → Unknown word → Talk words script m (unknown_line 1)
-  second_unknown : (k : TheLayer) (word : List ℕ) → Narrow k → words ≡ layer_word k ++ 32 ∷ word → Unknown word → Talk words script m (unknown_line 2)
+  second_unknown : (k : TheLayer) (word : List ℕ) → WideNames k → words ≡ layer_word k ++ 32 ∷ word → Unknown word → Talk words script m (unknown_line 2)

@@ -2,7 +2,7 @@
 
 ghost use Rattle.std.specs.Prelude.{◌≡◌, [], ◌∷◌, IfOk, Some, None, string_bytes, MatchOption};
 ghost use Rattle.sheet.specs.Fields.{Says};
-ghost use Rattle.shell.specs.Layered.{Layered, Narrow, SomeNames, Talk, joined, layer_as, layer_of, layer_word, refusal_line, unknown_line};
+ghost use Rattle.shell.specs.Layered.{Layered, WideNames, SomeNames, Talk, joined, layer_as, layer_of, layer_word, refusal_line, unknown_line};
 
 use super::commands::is;
 use super::dialogues::converse;
@@ -60,7 +60,7 @@ fn names(heap: Global, text: &[u8]) -> Result<Option<Vec<usize>>, AllocError>
 
 // The layer that a word names: `mirror`, or `rename:` and the names, which may be none.
 fn layer_of(heap: Global, word: &[u8]) -> Result<Option<Layer>, AllocError>
-    ensures layer { IfOk result (λ o. Says Narrow layer_word word.now (layer_as o)) }
+    ensures layer { IfOk result (λ o. Says WideNames layer_word word.now (layer_as o)) }
 {
     if is(word, "mirror") {
         return Ok(Some(Layer::Mirror));
