@@ -15,7 +15,7 @@ use cc::faults::Fault;
 use std::alloc::{AllocError, Global};
 
 // A call that changes nothing; a list is the one that the caller hands over.
-#[derive(Drop)]
+#[derive(Clone, Drop)]
 pub enum Question {
     Place(usize),
     Neighbours(usize),
@@ -24,7 +24,7 @@ pub enum Question {
 }
 
 // A call on a hull.
-#[derive(Drop)]
+#[derive(Clone, Drop)]
 pub enum Call {
     Add(usize),
     Drop(usize),
@@ -80,18 +80,6 @@ impl Question {
         }
     }
 
-    // The same question, with a copy of its list.
-    fn copied(&self, heap: Global) -> Result<Question, AllocError>
-        ensures copied { IfOk result (λ q. question_of q ≡ question_of self.now) }
-    {
-        Ok(match self {
-            Question::Place(mark) => Question::Place(*mark),
-            Question::Neighbours(mark) => Question::Neighbours(*mark),
-            Question::Outline(list) => Question::Outline(Vec::from_slice(heap, list)?),
-            Question::Rounds(list) => Question::Rounds(Vec::from_slice(heap, list)?),
-        })
-    }
-
     // The list that goes with it; an empty one where none does.
     fn into_list(self, heap: Global) -> Vec<usize>
         ensures list { result.items ≡ list_of (question_of self) }
@@ -116,17 +104,6 @@ impl Call {
             Call::Drop(mark) => hull.drop(*mark).map(Reply::Dropped),
             Call::Ask(question) => question.put_to(hull),
         }
-    }
-
-    // The same call, with a copy of its list.
-    fn copied(&self, heap: Global) -> Result<Call, AllocError>
-        ensures copied { IfOk result (λ c. call_of c ≡ call_of self.now) }
-    {
-        Ok(match self {
-            Call::Add(mark) => Call::Add(*mark),
-            Call::Drop(mark) => Call::Drop(*mark),
-            Call::Ask(question) => Call::Ask(question.copied(heap)?),
-        })
     }
 
     // The list that goes with it; an empty one where none does.
@@ -185,7 +162,7 @@ fn ask<S: CcSystem>(
     ensures answer { IfOk result (λ a. Answers (S.CcSystem.meaning hull.now.system) (held hull.now.state.records) (question_of question.now) (answer_of a)) }
     ensures bare { IfOk result Bare }
 {
-    let mut question = question.copied(heap)?;
+    let mut question = question.clone()?;
     let reply = question.put_to(hull);
     Ok(Answer {
         reply,
@@ -203,7 +180,7 @@ fn carry_out<S: CcSystem>(
     ensures bare { IfOk result Bare }
     ensures system { hull.new.system ≡ hull.old.system }
 {
-    let mut call = call.copied(heap)?;
+    let mut call = call.clone()?;
     let reply = call.make_on(hull);
     Ok(Answer {
         reply,
