@@ -39,7 +39,7 @@ list_of (neighbours x) = []
 list_of (outline list) = list
 list_of (rounds list) = list
 
--- a call with an empty list for its own: all that making it leaves as it is
+-- a call with an empty list for its own: which call it is, whatever its list holds
 abbrev pub stripped : TheCall → TheCall
 stripped (add x) = add x
 stripped (drop x) = drop x

@@ -53,7 +53,7 @@ pub struct Answer {
 }
 
 // A call that is made in its place in a history: the call, whose list it writes into, and the reply to it. Before the call is made any reply
-// may stand there.
+// may stand there. It stays no `Option`: nothing reads it before, and afterwards each reader would take a `Some` apart.
 #[derive(Drop)]
 pub struct Step {
     pub call: Call,
@@ -189,6 +189,7 @@ fn carry_out<S: CcSystem>(
 }
 
 // Makes the calls on an unused hull over the system, one after the other, and records each answer.
+// It stays beside `make_all`: calls that are lent only to be read are cloned one at a time, and the answers are a list of their own.
 fn replay<S: CcSystem + Drop>(
     heap: Global,
     system: S,

@@ -1,5 +1,5 @@
 -- What the shell's calls mean.
-use Rattle.std.specs.Prelude.{ℕ, min, List, [], replicate}
+use Rattle.std.specs.Prelude.{ℕ, min, List, replicate}
 use Rattle.runs.specs.Calls.{add, drop, place, neighbours, outline, rounds}
 use Rattle.runs.specs.Calls.{Call as TheCall}
 use Rattle.shell.specs.declared.commands.Call.{Call}
@@ -18,15 +18,6 @@ call_of Place x = place x
 call_of Neighbours x = neighbours x
 call_of Outline room = outline (handed room)
 call_of Rounds room = rounds (handed room)
-
--- the list that goes with the call, before it is made; empty where none does
-abbrev pub list_of : Verb → ℕ → List ℕ
-list_of Add x = []
-list_of Drop x = []
-list_of Place x = []
-list_of Neighbours x = []
-list_of Outline room = handed room
-list_of Rounds room = handed room
 
 -- the same of the two together
 abbrev pub meant : Call → TheCall

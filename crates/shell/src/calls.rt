@@ -2,8 +2,8 @@
 
 ghost use Rattle.std.specs.Prelude.{◌≡◌, length};
 ghost use Rattle.hull.specs.Records.{held};
-ghost use Rattle.hull.specs.Histories.{Called, told};
-ghost use Rattle.shell.specs.Calls.{handed, list_of, meant};
+ghost use Rattle.hull.specs.Histories.{Called, list_of, told};
+ghost use Rattle.shell.specs.Calls.{handed, meant};
 
 use super::commands::{Call, Verb};
 use arrayvec::ArrayVec;
@@ -31,7 +31,7 @@ pub fn make<S: CcSystem>(
     list: &mut ArrayVec<usize, LIMIT>,
 ) -> Result<Reply, Fault>
     ensures called { Called (S.CcSystem.meaning hull.old.system) (held hull.old.state.records) (held hull.new.state.records) (meant call) (told result list.new.items) }
-    ensures list { length list.new.items ≡ length (list_of call.verb call.number) }
+    ensures list { length list.new.items ≡ length (list_of (meant call)) }
     ensures system { hull.new.system ≡ hull.old.system }
 {
     let Call { verb, number } = call;
