@@ -62,8 +62,8 @@ pub struct Step {
 
 impl Question {
     // Puts the question to a hull, which writes into the list that goes with it.
-    // It and `make_on` stay apart from `calls::make` of the shell, which makes the same calls: here the list comes with the call, is on the heap
-    // and of any length.
+    // It and `make_on` stay apart from `calls::make` of the shell, which makes the same calls: here the list comes with the call, is on the
+    // heap and of any length.
     fn put_to<S: CcSystem>(&mut self, hull: &DynamicHull<S>) -> Result<Reply, Fault>
         ensures answer { Answers (S.CcSystem.meaning hull.now.system) (held hull.now.state.records) (question_of self.old) (told result (list_of (question_of self.new))) }
         ensures bare { bare result (list_of (question_of self.new)) }
@@ -130,9 +130,9 @@ fn make_all<S: CcSystem + Drop>(system: S, steps: &mut [Step]) -> DynamicHull<S>
     hull
 }
 
-// Runs a history of calls on an unused hull over the first system, and another on one over the second, and then puts a question to each; every
-// reply and every list is written in its place, so that nothing is copied, and nothing can be wanting. Its contract is the theorem over whole
-// runs.
+// Runs a history of calls on an unused hull over the first system, and another on one over the second, and then puts a question to each.
+// Every reply and every list is written in its place, so that no memory is asked for. Its contract is the theorem over whole runs; `compared`
+// says of two like questions what `compare` says of one.
 pub fn compare_in_place<S: CcSystem + Drop, T: CcSystem + Drop>(
     first: S,
     first_steps: &mut [Step],

@@ -49,7 +49,7 @@ pub fn star_console(
     ensures console { IfOk result (λ out. StarConsole text.now centre layers.now script.now (string_bytes out)) }
 {
     let mut room = Room::new();
-    // stays a `match`, as in `console`; and in two steps, since the check knows of no kind in an arm of the two others within `Ok`
+    // stays a `match`, as in `console`, and in two steps: in an arm of two patterns within `Ok` the check does not know that one of them fits
     let system = match open(&mut room, text) {
         Ok(system) => system,
         Err(fault) => return refusal(heap, fault),
