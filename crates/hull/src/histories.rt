@@ -130,7 +130,7 @@ fn make_all<S: CcSystem + Drop>(system: S, steps: &mut [Step]) -> DynamicHull<S>
     hull
 }
 
-// Runs a history of calls on an unused hull over the first system, and another on one over the second, and then puts a question to each.
+// Runs a history of calls on an unused hull over the first system, and another on one over the second, then puts a question to each.
 // Every reply and every list is written in its place, so that no memory is asked for. Its contract is the theorem over whole runs; `compared`
 // says of two like questions what `compare` says of one.
 pub fn compare_in_place<S: CcSystem + Drop, T: CcSystem + Drop>(

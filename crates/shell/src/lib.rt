@@ -49,7 +49,7 @@ pub fn star_console(
     ensures console { IfOk result (λ out. StarConsole text.now centre layers.now script.now (string_bytes out)) }
 {
     let mut room = Room::new();
-    // stays a `match`, as in `console`, and in two steps: in an arm of two patterns within `Ok` the check does not know that one of them fits
+    // stays a `match`, as in `console`, and in two steps: in an arm of two patterns within `Ok` the check does not know that one fits
     let system = match open(&mut room, text) {
         Ok(system) => system,
         Err(fault) => return refusal(heap, fault),
@@ -60,8 +60,8 @@ pub fn star_console(
     }
 }
 
-// The contracts of `console` and `star_console` leave one text for each sheet, centre, words of layers and script. Over any system the words
-// and the script have one text, and so has a script alone, whichever marks are in; and the marks have one census.
+// The contracts of `console` and `star_console` leave one text for each sheet, centre, words of layers and script. Over any system the
+// words and the script have one text, and so has a script alone, whichever marks are in; and the marks have one census.
 pub fn consoles_stand()
     ensures censuses { OneCensus }
     ensures dialogues { OneDialogue }
