@@ -161,8 +161,25 @@ pub fn sheet_for_a_star(random: &mut Random) -> Vec<u8> {
     }
 }
 
+/// A table of which one turn line ends in another field: an empty one, a longer one, another letter, or now and then a good one.
+fn with_other_turn_field(random: &mut Random) -> Vec<u8> {
+    let (n, turns) = turns(random);
+    let mut lines: Vec<Vec<u8>> = written(&Sheet::Turns(n, turns)).split_inclusive(|&b| b == 10).map(<[u8]>::to_vec).collect();
+    if lines.len() > 1 {
+        let line = 1 + random.below(lines.len() - 1);
+        let field = *random.pick(&["", "L", "R", "LR", "RL", "LL", "RR", "l", "r", "lr", "L ", " R", "L\r", "R\t", "L\tR", "\tL", "0", "left"]);
+        let kept = lines[line].len() - 2;
+        lines[line].truncate(kept);
+        lines[line].extend(field.bytes().chain([10]));
+    }
+    lines.concat()
+}
+
 /// A sheet with some bytes changed, left out or put in, cut off, or with a line doubled or left out. Now and then it is still a sheet.
 pub fn damaged(random: &mut Random) -> Vec<u8> {
+    if random.one_in(8) {
+        return with_other_turn_field(random);
+    }
     let mut text = sheet(random);
     if random.one_in(200) {
         text.resize(*random.pick(&[32_768, 32_769, 40_000]), b'm');

@@ -1,7 +1,8 @@
 //! A line and its fields.
 
-ghost use Rattle.std.specs.Prelude.{◌∷◌};
+ghost use Rattle.std.specs.Prelude.{[], ◌∷◌};
 ghost use Rattle.std.specs.Option.{option_map};
+ghost use Rattle.cc.specs.Texts.{side};
 ghost use Rattle.sheet.specs.Fields.{Says};
 ghost use Rattle.sheet.specs.Shapes.{Parted, shape, spelled};
 
@@ -31,6 +32,19 @@ pub(crate) enum Line<'a> {
     },
 }
 
+// The turn that the field tells: left exactly for the one byte L, right exactly for R, and none for every other field, empty and longer
+// ones among them.
+fn turn_told(field: &[u8]) -> Option<Turn>
+    ensures told { Says (λ _. Unit {0}) (λ turn. side turn ∷ []) field.now result }
+{
+    let mut letters = field.iter().copied().map(char::from);
+    match (letters.next(), letters.next()) {
+        (Some('L'), None) => Some(Turn::Left),
+        (Some('R'), None) => Some(Turn::Right),
+        _ => None,
+    }
+}
+
 // The line of a turn, from what stands after its letter and the tab; none where these are not the fields of a turn.
 fn turning_fields(fields: &[u8]) -> Option<Line<'_>>
     ensures fields { Says Parted spelled (116 ∷ 9 ∷ fields.now) (option_map shape result) }
@@ -38,8 +52,7 @@ fn turning_fields(fields: &[u8]) -> Option<Line<'_>>
     let (i, after_i) = cut(fields, b'\t')?;
     let (j, after_j) = cut(after_i, b'\t')?;
     let (k, last) = cut(after_j, b'\t')?;
-    let [letter] = last else { return None };
-    let turn = Turn::try_from(*letter).ok()?;
+    let turn = turn_told(last)?;
     Some(Line::Turning { i, j, k, turn })
 }
 
