@@ -476,12 +476,13 @@ fn root(square: i64) -> i64 {
     root
 }
 
-/// The length of a tape around a ring.
+/// The length of a tape around a ring, found in parts, of which 1,024 make a twentieth of a millimetre.
 pub fn tape(places: &[(i64, i64)], ring: &[usize]) -> i64 {
-    (0..ring.len())
+    let parts: i64 = (0..ring.len())
         .map(|at| {
             let (p, q) = (places[ring[at]], places[ring[(at + 1) % ring.len()]]);
-            root((p.0 - q.0).pow(2) + (p.1 - q.1).pow(2))
+            root(1_048_576 * ((p.0 - q.0).pow(2) + (p.1 - q.1).pow(2)))
         })
-        .sum()
+        .sum();
+    (parts + 512) / 1_024
 }

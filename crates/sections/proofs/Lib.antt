@@ -3,3 +3,4 @@ mod Facing
 mod Pairs
 pub mod Lengths
 pub mod OneStar
+pub mod Errors

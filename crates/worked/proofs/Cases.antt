@@ -25,6 +25,7 @@ use Rattle.runs.proofs.Decided.{test_same}
 use Rattle.runs.proofs.Standing.{on_all}
 use Rattle.models.specs.Catalogue.{Catalogued}
 use Rattle.worked.specs.Worked.{section, points, all_five, all_but_2, row, twice, square, Worked}
+use Rattle.worked.proofs.Tape.{parts_of_five, tape_of_five}
 use Rattle.worked.proofs.Rings.{arc_test, arc_by, never_pair, never_triple, zero_test}
 
 near_by : (ps : List Place) → T (all (length ps) (λ i. leb (nat_abs (the-place ps i).x) 10000 && leb (nat_abs (the-place ps i).y) 10000)) → AllNear ps
@@ -164,6 +165,8 @@ worked catalogue fives =
       after_drop = drops one_more ring_of_five ring_of_four left_one;
       ring = ring_of_four;
       after_add = adds {side = edge} (lit< tt) one_more ring_of_four ring_of_five (1, lit< tt, refl) left_one;
+      parts = parts_of_five;
+      tape = tape_of_five;
       star_turn = refl;
       fours = fours;
       fives = fives;

@@ -1,2 +1,3 @@
 mod Rings
+mod Tape
 mod Cases

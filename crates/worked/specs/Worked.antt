@@ -11,6 +11,7 @@ use Rattle.cc.specs.declared.faults.Fault.TheVariants.{Twin, Straight, Circled}
 use Rattle.systems.specs.Openings.{Refused, StarRefused}
 use Rattle.systems.specs.Networks.{ThreeWires}
 use Rattle.runs.specs.Calls.{add, drop, place, edge, added, dropped, within, RingOf, Answers}
+use Rattle.sections.specs.Tapes.{Parts, Taped}
 
 -- the place with these coordinates
 abbrev pub at : ℤ → ℤ → Place
@@ -27,6 +28,10 @@ points = plane section
 -- the marks that are in: all five
 abbrev pub all_five : ℕ → Bool
 all_five p = nat_lt p 5
+
+-- the outline of all five
+abbrev pub outline_of_five : List ℕ
+outline_of_five = 1 ∷ 2 ∷ 3 ∷ 4 ∷ []
 
 -- the marks that are in: all but mark 2
 abbrev pub all_but_2 : ℕ → Bool
@@ -55,6 +60,9 @@ pub record Worked (catalogue : List ℕ) : Type 0 where
   pub after_drop : Answers points all_five (drop 2) (dropped 1)
   pub ring : RingOf points all_but_2 (0 ∷ 3 ∷ 4 ∷ 1 ∷ [])
   pub after_add : Answers points all_but_2 (add 2) (added edge 1)
+  -- around the outline of all five the tape has 33,429 parts of 1/1,024, which come to 33
+  pub parts : Parts section outline_of_five 33429
+  pub tape : Taped section outline_of_five 33
   -- in the star about 0, points 2, 3, 4 have determinant 1,074
   pub star_turn : det (seen (the-place section 0) (the-place section 2)) (seen (the-place section 0) (the-place section 3)) (seen (the-place section 0) (the-place section 4)) ≡ pos 1074
   -- of the patterns of four marks, just 5 and 10 break a law; of those of five, 264 keep the laws, and the catalogue lists them
