@@ -13,7 +13,7 @@ roots (suc (suc zero)) lt = record { low = lit≤ tt; high = lit< tt }
 roots (suc (suc (suc zero))) lt = record { low = lit≤ tt; high = lit< tt }
 roots (suc (suc (suc (suc i)))) lt = absurd (omega arith)
 
-abbrev pub parts_of_five : Parts section outline_of_five 33429
+pub parts_of_five : Parts section outline_of_five 33429
 parts_of_five = record { parts = found; one_each = refl; roots = roots; adds = refl }
 
 pub tape_of_five : Taped section outline_of_five 33
