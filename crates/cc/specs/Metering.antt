@@ -8,11 +8,11 @@ use Rattle.cc.specs.declared.CcSystem.{Ghosts}
 abbrev pub metered : {S : Type 0} → Ghosts S → S → Metered
 metered c s = record { meaning = c.meaning s; units = c.units s }
 
--- two readings of one system
+-- the two are one system: the same marks, turns and units
 pub record Alike (r r' : Metered) : Type 0 where
   pub system : Same r.meaning r'.meaning
   pub units : r.units ≡ r'.units
 
--- the one is the layer over the other
+-- the second system is the layer over the first
 abbrev pub IsLaid : Layer → Metered → Metered → Type 0
 IsLaid l below above = Alike above (laid l below)
