@@ -1,7 +1,7 @@
 //! The hull by the steps that the proved code takes, in ordinary Rust, to see what it costs that the code is written so as to be proved.
 //! An add asks each arc of the old ring once; place bisects the fan; drop and rounds find outlines by adding mark after mark.
 
-use crate::plain::{det, no, Answer, Placed};
+use crate::plain::{det, no, Added, Answer, Placed};
 use crate::tallies::Calls;
 
 pub struct Matched<'a> {
@@ -46,24 +46,35 @@ impl<'a> Matched<'a> {
         Matched { places, held: [false; 128], before: [0; 128], after: [0; 128], ring: Ring::new() }
     }
 
-    fn right(&self, p: usize, q: usize, x: usize) -> bool {
-        det(self.places[p], self.places[q], self.places[x]) < 0
+    /// Whether x lies to the right of the way from p to q, and the units of that turn.
+    fn look(&self, p: usize, q: usize, x: usize) -> (bool, usize) {
+        (det(self.places[p], self.places[q], self.places[x]) < 0, 1)
     }
 
-    /// The ring around the marks of this one and x.
-    fn grown(&self, ring: &Ring, x: usize) -> Ring {
+    fn right(&self, p: usize, q: usize, x: usize) -> bool {
+        self.look(p, q, x).0
+    }
+
+    /// The ring around the marks of this one and x, and the units of the turns that are asked for.
+    fn grown(&self, ring: &Ring, x: usize) -> (Ring, usize) {
         let mut new = Ring::new();
         let marks = ring.marks();
         if marks.len() < 2 {
             new = *ring;
             new.push(x);
-            return new.lowest_first();
+            return (new.lowest_first(), 0);
         }
         let last = marks.len() - 1;
-        let seen_last = self.right(marks[last], marks[0], x);
+        let (seen_last, mut units) = self.look(marks[last], marks[0], x);
         let mut seen_to = seen_last;
         for (at, &mark) in marks.iter().enumerate() {
-            let seen_from = if at < last { self.right(mark, marks[at + 1], x) } else { seen_last };
+            let seen_from = if at < last {
+                let (seen, of_turn) = self.look(mark, marks[at + 1], x);
+                units += of_turn;
+                seen
+            } else {
+                seen_last
+            };
             match (seen_to, seen_from) {
                 (true, true) => {}
                 (false, true) => {
@@ -74,14 +85,14 @@ impl<'a> Matched<'a> {
             }
             seen_to = seen_from;
         }
-        new.lowest_first()
+        (new.lowest_first(), units)
     }
 
     fn outline_of(&self, held: &[bool; 128]) -> Ring {
         let mut ring = Ring::new();
         for mark in 0..self.places.len() {
             if held[mark] {
-                ring = self.grown(&ring, mark);
+                ring = self.grown(&ring, mark).0;
             }
         }
         ring
@@ -113,7 +124,7 @@ impl<'a> Matched<'a> {
 }
 
 impl Calls for Matched<'_> {
-    fn add(&mut self, mark: usize) -> Answer<(bool, usize)> {
+    fn add(&mut self, mark: usize) -> Answer<Added> {
         if mark >= self.places.len() {
             return no(9, &[mark]);
         }
@@ -121,13 +132,11 @@ impl Calls for Matched<'_> {
             return no(10, &[mark]);
         }
         let old = self.ring.length;
-        let ring = self.grown(&self.ring, mark);
+        let (ring, units) = self.grown(&self.ring, mark);
         self.held[mark] = true;
         self.settle(ring);
-        Ok(match self.position(mark) {
-            Some(_) => (true, old + 1 - ring.length),
-            None => (false, 0),
-        })
+        let edge = self.position(mark).is_some();
+        Ok(Added { edge, left: if edge { old + 1 - ring.length } else { 0 }, units })
     }
 
     fn drop(&mut self, mark: usize) -> Answer<usize> {

@@ -126,15 +126,24 @@ pub fn read(text: &[u8]) -> Answer<Sheet> {
     })
 }
 
-/// A system: its count, and for each three different marks whether they turn left.
+/// A system: its count, the units of its turns, and for each three different marks whether they turn left.
 #[derive(Clone)]
 pub struct System {
     pub count: usize,
+    units: usize,
     left: Vec<bool>,
 }
 
+/// The units of a layer, which adds some to those of the system below.
+fn layer_units(below: usize, added: usize) -> Answer<usize> {
+    match below + added {
+        units if units > 1_000 => no(22, &[units]),
+        units => Ok(units),
+    }
+}
+
 impl System {
-    fn of(count: usize, left: impl Fn(usize, usize, usize) -> bool) -> System {
+    fn of(count: usize, units: usize, left: impl Fn(usize, usize, usize) -> bool) -> System {
         let mut all = vec![false; count * count * count];
         for p in 0..count {
             for q in 0..count {
@@ -145,15 +154,16 @@ impl System {
                 }
             }
         }
-        System { count, left: all }
+        System { count, units, left: all }
     }
 
     pub fn left(&self, p: usize, q: usize, r: usize) -> bool {
         self.left[(p * self.count + q) * self.count + r]
     }
 
-    pub fn mirror(&self) -> System {
-        System::of(self.count, |p, q, r| !self.left(p, q, r))
+    pub fn mirror(&self) -> Answer<System> {
+        let units = layer_units(self.units, 1)?;
+        Ok(System::of(self.count, units, |p, q, r| !self.left(p, q, r)))
     }
 
     pub fn rename(&self, names: &[usize]) -> Answer<System> {
@@ -165,7 +175,8 @@ impl System {
                 return no(12, &[entry]);
             }
         }
-        Ok(System::of(names.len(), |p, q, r| self.left(names[p], names[q], names[r])))
+        let units = layer_units(self.units, 3)?;
+        Ok(System::of(names.len(), units, |p, q, r| self.left(names[p], names[q], names[r])))
     }
 }
 
@@ -244,7 +255,7 @@ pub fn open(sheet: &Sheet) -> Answer<System> {
                     return no(5, &[i, j, k]);
                 }
             }
-            Ok(System::of(n, |p, q, r| det(places[p], places[q], places[r]) > 0))
+            Ok(System::of(n, 1, |p, q, r| det(places[p], places[q], places[r]) > 0))
         }
         Sheet::Crossings(n, crossings) => {
             let mut wires: Vec<usize> = (0..*n).collect();
@@ -256,7 +267,7 @@ pub fn open(sheet: &Sheet) -> Answer<System> {
                 when[wires[k] * n + wires[k + 1]] = entry;
                 wires.swap(k, k + 1);
             }
-            Ok(System::of(*n, |p, q, r| by_rising(p, q, r, |i, j, k| when[i * n + j] < when[j * n + k])))
+            Ok(System::of(*n, 2, |p, q, r| by_rising(p, q, r, |i, j, k| when[i * n + j] < when[j * n + k])))
         }
         Sheet::Turns(n, turns) => {
             let threes = triples(*n);
@@ -264,7 +275,7 @@ pub fn open(sheet: &Sheet) -> Answer<System> {
             for (three, turn) in threes.iter().zip(turns) {
                 rising[(three[0] * n + three[1]) * n + three[2]] = *turn;
             }
-            let system = System::of(*n, |p, q, r| by_rising(p, q, r, |i, j, k| rising[(i * n + j) * n + k]));
+            let system = System::of(*n, 1, |p, q, r| by_rising(p, q, r, |i, j, k| rising[(i * n + j) * n + k]));
             let left = |p: usize, q: usize, r: usize| system.left(p, q, r);
             let four_orders = orders(&[0, 1, 2, 3]);
             for four in groups(*n, 4) {
@@ -323,6 +334,16 @@ pub fn rounds(system: &System, held: &[bool]) -> (usize, Vec<usize>) {
     (number, entries)
 }
 
+/// What an add did.
+pub struct Added {
+    /// whether the mark stands on the outline
+    pub edge: bool,
+    /// how many marks left the outline
+    pub left: usize,
+    /// the units of the turns that an add asks for
+    pub units: usize,
+}
+
 pub enum Placed {
     Edge(usize),
     Inside(usize, usize),
@@ -357,7 +378,7 @@ impl Hull {
         }
     }
 
-    pub fn add(&mut self, mark: usize) -> Answer<(bool, usize)> {
+    pub fn add(&mut self, mark: usize) -> Answer<Added> {
         match self.held.get(mark) {
             None => return no(9, &[mark]),
             Some(true) => return no(10, &[mark]),
@@ -366,7 +387,12 @@ impl Hull {
         let before = self.ring();
         self.held[mark] = true;
         let after = self.ring();
-        Ok((after.contains(&mark), before.iter().filter(|p| !after.contains(p)).count()))
+        let arcs = if before.len() < 2 { 0 } else { before.len() };
+        Ok(Added {
+            edge: after.contains(&mark),
+            left: before.iter().filter(|p| !after.contains(p)).count(),
+            units: arcs * self.system.units,
+        })
     }
 
     pub fn drop(&mut self, mark: usize) -> Answer<usize> {
@@ -444,7 +470,7 @@ fn others(places: &[(i64, i64)], c: usize) -> Answer<Vec<usize>> {
 pub fn star_system(places: &[(i64, i64)], c: usize) -> Answer<System> {
     let others = others(places, c)?;
     let place = |mark: usize| places[others[mark]];
-    Ok(System::of(others.len(), |p, q, r| circle(places[c], place(p), place(q), place(r)) > 0))
+    Ok(System::of(others.len(), 3, |p, q, r| circle(places[c], place(p), place(q), place(r)) > 0))
 }
 
 /// The Delaunay pairs about mark c.

@@ -1,10 +1,10 @@
 //! What the answers to calls are worth, added up: compared, and timed, without any text.
 
-use crate::plain::{Answer, Hull, Placed};
+use crate::plain::{Added, Answer, Hull, Placed};
 
 /// The calls on a hull, of the plain implementation or of the matched one; `outline` and `rounds` write into the caller's list.
 pub trait Calls {
-    fn add(&mut self, mark: usize) -> Answer<(bool, usize)>;
+    fn add(&mut self, mark: usize) -> Answer<Added>;
     fn drop(&mut self, mark: usize) -> Answer<usize>;
     fn place(&self, mark: usize) -> Answer<Placed>;
     fn neighbours(&self, mark: usize) -> Answer<(usize, usize)>;
@@ -13,7 +13,7 @@ pub trait Calls {
 }
 
 impl Calls for Hull {
-    fn add(&mut self, mark: usize) -> Answer<(bool, usize)> {
+    fn add(&mut self, mark: usize) -> Answer<Added> {
         Hull::add(self, mark)
     }
 
@@ -52,7 +52,7 @@ fn worth(hull: &mut impl Calls, letter: u8, number: usize) -> usize {
     let mut zeros = [0; 128];
     let list = &mut zeros[..number.min(128)];
     let answer = match letter {
-        b'a' => hull.add(number).map(|(edge, left)| left + usize::from(edge)),
+        b'a' => hull.add(number).map(|added| added.left + usize::from(added.edge) + added.units),
         b'd' => hull.drop(number),
         b'p' => hull.place(number).map(|placed| match placed {
             Placed::Edge(position) => position,

@@ -126,7 +126,7 @@ fn layer(word: &str) -> Option<Layer> {
 
 fn layered(system: &System, layer: &Layer) -> Answer<System> {
     match layer {
-        Layer::Mirror => Ok(system.mirror()),
+        Layer::Mirror => system.mirror(),
         Layer::Renaming(names) => system.rename(names),
     }
 }
@@ -150,7 +150,7 @@ fn exchange(hull: &mut Hull, asked: &str) -> Option<Vec<String>> {
     let (verb, argument) = asked.split_once(' ')?;
     let x = number(argument)?;
     let answer = match verb {
-        "add" => hull.add(x).map(|(edge, gone)| words_of(if edge { "edge" } else { "inside" }, &[gone])),
+        "add" => hull.add(x).map(|added| words_of(if added.edge { "edge" } else { "inside" }, &[added.left, added.units])),
         "drop" => hull.drop(x).map(|come| vec![come.to_string()]),
         "place" => hull.place(x).map(|placed| match placed {
             Placed::Edge(position) => words_of("edge", &[position]),

@@ -11,9 +11,6 @@ pub trait Checked: Sized {
     ghost refusal: { Self → Option Fault };
 
     // Why it is refused; none where it is accepted.
-    // It stays an `Option`, here, as a field of each of the five types that have this trait, and as what `faults::accepted` takes; and the
-    // openers of the five answer the type itself and no `Result`: opening cannot fail, since what is refused is a system of no mark.
-    // Whoever wants a `Result` asks for `checked`.
     fn fault(&self) -> Option<Fault>
         ensures told { result ≡ refusal self.now };
 

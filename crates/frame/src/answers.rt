@@ -17,14 +17,14 @@ fn sum_of(first: usize, list: &[usize]) -> usize
         .fold(first, |all, value| all.wrapping_add(*value))
 }
 
-// What an add is worth: how many marks left, and one more on the edge.
-// stays a function: `Added` belongs to another crate, and this worth is only the tally's
+// What an add is worth: how many marks left, one more on the edge, and the units.
 fn of_added(added: Added) -> usize
     ensures worth { result ≡ wrapped (worth (told (Ok (reply.Added added)) [])) }
 {
-    match added.side {
-        Side::Edge => added.left.wrapping_add(1),
-        Side::Inside => added.left,
+    let Added { side, left, units } = added;
+    match side {
+        Side::Edge => left.wrapping_add(1).wrapping_add(units),
+        Side::Inside => left.wrapping_add(units),
     }
 }
 

@@ -14,7 +14,7 @@ word Inside = codes "inside"
 
 -- the fields of a reply, parted by tabs; a list that was written into is not shown
 abbrev pub fields : Reply → List ℕ
-fields (Added a) = word a.side ++ tabbed (a.left ∷ [])
+fields (Added a) = word a.side ++ tabbed (a.left ∷ a.units ∷ [])
 fields (Dropped n) = decimal n
 fields (Placed (EdgeAt i)) = word Edge ++ tabbed (i ∷ [])
 fields (Placed (InsideOf a b)) = word Inside ++ tabbed (a ∷ b ∷ [])

@@ -4,7 +4,7 @@ use systems::networks::ReflectionNetwork;
 use systems::points::Points;
 use systems::tables::TurnTable;
 
-// The system that a sheet was opened as, by the kind of the sheet.
+/// The system that a sheet was opened as, by the kind of the sheet.
 #[derive(Clone, Copy)]
 pub enum Opened<'a> {
     Points(Points<'a>),

@@ -83,11 +83,11 @@ mod tests {
     fn a_star_keeps_an_outline(rt: HostRuntime) {
         let said = star_console(rt.alloc(), FIVE, 0, b"", CALLS);
         let due =
-            "add\t0\tedge\t0\nadd\t1\tedge\t0\nadd\t2\tedge\t0\nadd\t3\tedge\t0\noutline\t4\t4\t0\t1\t2\t3\nplace\t4\tno\t9\t4\n";
+            "add\t0\tedge\t0\t0\nadd\t1\tedge\t0\t0\nadd\t2\tedge\t0\t6\nadd\t3\tedge\t0\t9\noutline\t4\t4\t0\t1\t2\t3\nplace\t4\tno\t9\t4\n";
         assert!(rt; said.is_ok_and(|said| said.as_str() == due));
         let said = star_console(rt.alloc(), FIVE, 0, b"mirror", CALLS);
         let due =
-            "add\t0\tedge\t0\nadd\t1\tedge\t0\nadd\t2\tedge\t0\nadd\t3\tedge\t0\noutline\t4\t4\t0\t3\t2\t1\nplace\t4\tno\t9\t4\n";
+            "add\t0\tedge\t0\t0\nadd\t1\tedge\t0\t0\nadd\t2\tedge\t0\t8\nadd\t3\tedge\t0\t12\noutline\t4\t4\t0\t3\t2\t1\nplace\t4\tno\t9\t4\n";
         assert!(rt; said.is_ok_and(|said| said.as_str() == due));
     }
 
