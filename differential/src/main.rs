@@ -4,11 +4,13 @@
 //!     differential compare SHEETS HISTORIES [SEED]
 //!     differential programs SHEETS HISTORIES [SEED]      the same through the programs `report` and `console`
 //!     differential measure
+//!     differential placing
 
 mod cases;
 mod library;
 mod matched;
 mod measuring;
+mod placing;
 mod plain;
 mod programs;
 mod tallies;
@@ -149,6 +151,7 @@ fn main() {
             compare_histories(histories, seed, |words| words.trim_start_matches(' '), |text, words, script, _| programs::console(text, words, script));
         }
         Some("measure") => measuring::measure(),
-        _ => println!("differential compare SHEETS HISTORIES [SEED] | differential programs SHEETS HISTORIES [SEED] | differential measure"),
+        Some("placing") => placing::measure(),
+        _ => println!("differential compare SHEETS HISTORIES [SEED] | differential programs SHEETS HISTORIES [SEED] | differential measure | differential placing"),
     }
 }

@@ -1,5 +1,6 @@
 //! The hull by the steps that the proved code takes, in ordinary Rust, to see what it costs that the code is written so as to be proved.
-//! An add asks each arc of the old ring once; place bisects the fan; drop and rounds find outlines by adding mark after mark.
+//! An add asks each arc of the old ring once; place and neighbours look up the mark's position, and place bisects the fan; drop and rounds
+//! find outlines by adding mark after mark.
 
 use crate::plain::{det, no, Added, Answer, Placed};
 use crate::tallies::Calls;
@@ -9,6 +10,7 @@ pub struct Matched<'a> {
     held: [bool; 128],
     before: [usize; 128],
     after: [usize; 128],
+    position: [usize; 128],
     ring: Ring,
 }
 
@@ -43,7 +45,7 @@ impl Ring {
 
 impl<'a> Matched<'a> {
     pub fn over(places: &'a [(i64, i64)]) -> Matched<'a> {
-        Matched { places, held: [false; 128], before: [0; 128], after: [0; 128], ring: Ring::new() }
+        Matched { places, held: [false; 128], before: [0; 128], after: [0; 128], position: [0; 128], ring: Ring::new() }
     }
 
     /// Whether x lies to the right of the way from p to q, and the units of that turn.
@@ -103,6 +105,7 @@ impl<'a> Matched<'a> {
         let marks = ring.marks();
         for (at, &mark) in marks.iter().enumerate() {
             let next = if at + 1 < marks.len() { marks[at + 1] } else { marks[0] };
+            self.position[mark] = at;
             self.after[mark] = next;
             self.before[next] = mark;
         }
@@ -119,7 +122,8 @@ impl<'a> Matched<'a> {
     }
 
     fn position(&self, mark: usize) -> Option<usize> {
-        self.ring.marks().iter().position(|&p| p == mark)
+        let at = self.position[mark];
+        (self.ring.marks().get(at) == Some(&mark)).then_some(at)
     }
 }
 
@@ -133,16 +137,16 @@ impl Calls for Matched<'_> {
         }
         let old = self.ring.length;
         let (ring, units) = self.grown(&self.ring, mark);
+        let edge = ring.marks().contains(&mark);
         self.held[mark] = true;
         self.settle(ring);
-        let edge = self.position(mark).is_some();
-        Ok(Added { edge, left: if edge { old + 1 - ring.length } else { 0 }, units })
+        Ok(Added { edge, left: if edge { old + 1 - self.ring.length } else { 0 }, units })
     }
 
     fn drop(&mut self, mark: usize) -> Answer<usize> {
         self.holds(mark)?;
         let old = self.ring.length;
-        let edge = self.position(mark).is_some();
+        let edge = self.ring.marks().contains(&mark);
         self.held[mark] = false;
         let ring = self.outline_of(&self.held);
         self.settle(ring);

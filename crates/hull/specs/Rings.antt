@@ -1,5 +1,5 @@
 -- Rings as the code holds them.
-use Rattle.std.specs.Prelude.{ℕ, ◌<◌, Bool, true, false, T, List, [], ◌∷◌, ◌++◌}
+use Rattle.std.specs.Prelude.{◌≡◌, ℕ, ◌<◌, Bool, true, false, T, List, [], ◌∷◌, ◌++◌, length, slice_index, Some, None, Option}
 use Rattle.laws.specs.Systems.{Meaning}
 use Rattle.laws.specs.Outlines.{Marks, Outline}
 use Rattle.laws.specs.Theorems.{of}
@@ -14,6 +14,11 @@ listed r = r.marks.items
 abbrev pub rotated : List ℕ → List ℕ
 rotated [] = []
 rotated (a ∷ l) = l ++ a ∷ []
+
+-- where x stands on the ring; none says that it does not
+abbrev pub PositionOf : List ℕ → ℕ → Option ℕ → Type 0
+PositionOf ring x None = On ring x → ⊥
+PositionOf ring x (Some i) = (i < length ring) × (slice_index ring i ≡ x)
 
 -- x is a mark of the system, and the ring is the outline of some marks without x
 pub record Beside (m : Meaning) (ring : List ℕ) (x : ℕ) : Type 0 where

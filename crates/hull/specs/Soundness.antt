@@ -13,7 +13,7 @@ use Rattle.laws.specs.Outlines.{Arc, Apart, Step, Follows, Hull, Outline, none, 
 use Rattle.laws.specs.Theorems.{of}
 use Rattle.runs.specs.Calls.{RingOf}
 use Rattle.hull.specs.declared.records.Record.{Record}
-use Rattle.hull.specs.Records.{at, held, Sound}
+use Rattle.hull.specs.Records.{at, held, Linked, Sound}
 
 ≢_prop : {p q : ℕ} → IsProp (p ≢ q)
 ≢_prop = ¬_prop
@@ -85,10 +85,17 @@ module _ (m : Meaning) (s : ℕ → Bool) where
   RingOf-prop : (ring : List ℕ) → IsProp (RingOf m s ring)
   RingOf-prop ring h k = λ i. record { outline = Outline-prop ring h.outline k.outline i; lowest = ReadOut-prop ring h.lowest k.lowest i }
 
+Linked-prop : (rs : List Record) (ring : List ℕ) → IsProp (Linked rs ring)
+Linked-prop rs ring h k =
+    λ i. record {
+      beside = Π_prop (λ p. Π_prop (λ q. →_prop (pair_prop (at rs p).after q (at rs q).before p))) h.beside k.beside i;
+      positions = Π_prop (λ j. →_prop (ℕ_set _ j)) h.positions k.positions i;
+    }
+
 pub Sound-prop : (m : Meaning) (rs : List Record) (ring : List ℕ) → IsProp (Sound m rs ring)
 Sound-prop m rs ring h k =
     λ i. record {
       marks = Π_prop (λ p. →_prop le_prop) h.marks k.marks i;
       is_ring = RingOf-prop m (held rs) ring h.is_ring k.is_ring i;
-      links = Π_prop (λ p. Π_prop (λ q. →_prop (pair_prop (at rs p).after q (at rs q).before p))) h.links k.links i;
+      links = Linked-prop rs ring h.links k.links i;
     }

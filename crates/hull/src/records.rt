@@ -5,14 +5,14 @@ ghost use Rattle.std.specs.Prelude.{◌≡◌, length};
 use super::rings::Ring;
 use cc::LIMIT;
 
-// Whether a mark is in, and its two neighbours on the outline; of a mark that is not on it the neighbours say nothing.
-// It stays a flag beside two numbers: a mark that is in has neighbours only while it is on the outline, so an `Option` of them would not
-// say whether it is in, and each mark that leaves the outline would have to be found and cleared.
+// Whether a mark is in, and its two neighbours and its position on the outline. Of a mark that is not on the outline these three say nothing:
+// a mark that leaves it is not looked for, and its record keeps what was so before.
 #[derive(Clone, Copy)]
 pub struct Record {
     pub(crate) is_in: bool,
     pub(crate) before: usize,
     pub(crate) after: usize,
+    pub(crate) position: usize,
 }
 
 // The records of all marks, and the outline of those that are in, from its lowest mark on.

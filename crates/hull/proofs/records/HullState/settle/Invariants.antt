@@ -4,9 +4,9 @@ use Rattle.hull.specs.Records.{held}
 use Rattle.hull.proofs.Links.{LinkAt}
 use Rattle.hull.proofs.records.HullState.settle.Given as goal
 
-abbrev pub invariant-loop-next : goal.invariant-loop-next
-invariant-loop-next l = record {
-  mark : l.mark ≡ get_or (listed l.fn.ring) l.next-index 0;
-  linked : (k : ℕ) → k < l.next-index → LinkAt l.self.records (listed l.fn.ring) k;
+abbrev pub invariant-loop-position : goal.invariant-loop-position
+invariant-loop-position l = record {
+  mark : l.mark ≡ get_or (listed l.fn.ring) l.position 0;
+  linked : (k : ℕ) → k < l.position → LinkAt l.self.records (listed l.fn.ring) k;
   held : (p : ℕ) → held l.self.records p ≡ held l.fn.self.records p;
 }
