@@ -1,6 +1,6 @@
 //! The hull by the steps that the proved code takes, in ordinary Rust, to see what it costs that the code is written so as to be proved.
-//! An add asks each arc of the old ring once; place and neighbours look up the mark's position, and place bisects the fan; drop and rounds
-//! find outlines by adding mark after mark.
+//! An add asks each arc of the old ring once; place and neighbours look up the mark's position, and place bisects the fan; a drop goes from
+//! the mark before the dropped one to the mark after it; rounds finds outlines by adding mark after mark.
 
 use crate::plain::{det, no, Added, Answer, Placed};
 use crate::tallies::Calls;
@@ -100,6 +100,33 @@ impl<'a> Matched<'a> {
         ring
     }
 
+    /// The mark to which an arc of the held marks leads from p: the first of them about p. `some` is one of them.
+    fn follower(&self, held: &[bool], p: usize, some: usize) -> usize {
+        let mut first = some;
+        for (mark, &is_held) in held.iter().enumerate() {
+            if is_held && mark != p && mark != first && self.right(p, first, mark) {
+                first = mark;
+            }
+        }
+        first
+    }
+
+    /// The ring around the held marks, from the one around these and the mark at the position.
+    fn shrunk(&self, held: &[bool], position: usize) -> Ring {
+        let mut ring = self.ring;
+        ring.marks[..self.ring.length].rotate_left(position + 1);
+        ring.length -= 1;
+        if ring.length > 1 {
+            let first = ring.marks[0];
+            let mut next = self.follower(held, ring.marks[ring.length - 1], first);
+            while next != first {
+                ring.push(next);
+                next = self.follower(held, next, first);
+            }
+        }
+        ring.lowest_first()
+    }
+
     fn settle(&mut self, ring: Ring) {
         self.ring = ring;
         let marks = ring.marks();
@@ -146,11 +173,14 @@ impl Calls for Matched<'_> {
     fn drop(&mut self, mark: usize) -> Answer<usize> {
         self.holds(mark)?;
         let old = self.ring.length;
-        let edge = self.ring.marks().contains(&mark);
+        let position = self.position(mark);
         self.held[mark] = false;
-        let ring = self.outline_of(&self.held);
+        let Some(position) = position else {
+            return Ok(0);
+        };
+        let ring = self.shrunk(&self.held[..self.places.len()], position);
         self.settle(ring);
-        Ok(if edge { ring.length + 1 - old } else { 0 })
+        Ok(ring.length + 1 - old)
     }
 
     fn place(&self, mark: usize) -> Answer<Placed> {

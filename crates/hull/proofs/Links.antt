@@ -125,3 +125,13 @@ held_new rs x b h = ap (λ (r : Record). r.is_in) (put_at rs x _ h)
 
 pub held_other : (rs : List Record) (x : ℕ) (b : Bool) (p : ℕ) → p ≢ x → held (with_held rs x b) p ≡ held rs p
 held_other rs x b p n = ap (λ (r : Record). r.is_in) (put_other rs x p _ n)
+
+-- x in or out: the links are as they were
+pub linked_held : (rs : List Record) (x : ℕ) (b : Bool) (ring : List ℕ) → x < length rs → Linked rs ring → Linked (with_held rs x b) ring
+linked_held rs x b ring h links =
+    record {
+      beside = λ p q f.
+          let (i, j) = links.beside p q f in
+          (kept_field (λ (r : Record). r.after) rs x _ h refl p ∙ i, kept_field (λ (r : Record). r.before) rs x _ h refl q ∙ j);
+      positions = λ i lt. kept_field (λ (r : Record). r.position) rs x _ h refl _ ∙ links.positions i lt;
+    }

@@ -1,7 +1,7 @@
 -- Rings as the code holds them.
-use Rattle.std.specs.Prelude.{◌≡◌, ℕ, ◌<◌, Bool, true, false, T, List, [], ◌∷◌, ◌++◌, length, slice_index, Some, None, Option}
-use Rattle.laws.specs.Systems.{Meaning}
-use Rattle.laws.specs.Outlines.{Marks, Outline}
+use Rattle.std.specs.Prelude.{◌≡◌, ℕ, ◌<◌, Bool, true, false, T, ◌≢◌, List, [], ◌∷◌, ◌++◌, length, slice_index, Some, None, Option}
+use Rattle.laws.specs.Systems.{Meaning, Left}
+use Rattle.laws.specs.Outlines.{Marks, Arc, Apart, Step, Outline}
 use Rattle.laws.specs.Theorems.{of}
 use Rattle.runs.specs.Calls.{On, RingOf, OneMore}
 use Rattle.hull.specs.declared.rings.Ring.{Ring}
@@ -51,3 +51,32 @@ GoesRound m old x new = (s t : ℕ → Bool) → Marks m (of s) → RingOf m s o
 -- the same, from the lowest mark on
 abbrev pub Grows : Meaning → List ℕ → ℕ → List ℕ → Type 0
 Grows m old x new = (s t : ℕ → Bool) → Marks m (of s) → RingOf m s old → OneMore s x t → RingOf m t new
+
+-- x is not one of the marks of s, and the ring is the outline of these and x
+pub record Surrounds (m : Meaning) (s : ℕ → Bool) (ring : List ℕ) (x : ℕ) : Type 0 where
+  pub set : ℕ → Bool
+  pub marks : Marks m (of set)
+  pub one : OneMore s x set
+  pub is_ring : RingOf m set ring
+
+-- some arc of the marks of s comes to p
+abbrev pub Reached : Meaning → (ℕ → Bool) → ℕ → Type 0
+Reached m s p = (u : ℕ) × Arc m (of s) u p
+
+-- whether mark x comes before q about p; it does not where it is p or q
+abbrev pub ComesBefore : Meaning → ℕ → ℕ → ℕ → Bool → Type 0
+ComesBefore m p q x true = Left m p x q
+ComesBefore m p q x false = x ≢ p → x ≢ q → Left m p q x
+
+-- the ring is a way along arcs of the marks of s that goes on to q, and no mark stands on it twice
+abbrev pub Way : Meaning → (ℕ → Bool) → List ℕ → ℕ → Type 0
+Way m s [] q = ⊥
+Way m s (a ∷ l) q = ((c d : ℕ) → Step a l q c d → Arc m (of s) c d) × Apart (a ∷ l)
+
+-- the ring is a way along arcs of the marks of s, from its first mark to its last, which is another
+pub record Open (m : Meaning) (s : ℕ → Bool) (ring : List ℕ) : Type 0 where
+  pub front : List ℕ
+  pub last : ℕ
+  pub in_all : ring ≡ front ++ last ∷ []
+  pub way : Way m s front last
+  pub apart : last ≢ slice_index front 0

@@ -68,6 +68,19 @@ pub record Grown (m : Meaning) (s : ℕ → Type 0) (ring : List ℕ) (x : ℕ) 
   pub seen : (p q : ℕ) → Step last gone first p q → Left m p x q
   pub hull : Hull m (adding s x) (first ∷ rest ++ last ∷ x ∷ [])
 
+-- x leaves s with x: started at x, its ring is x, `first`, `rest`, `last`. The marks `arrived`, none of which was on the ring, take the place
+-- of x. The arcs of s are those of s with x that are not at x, and the steps from `last` through `arrived` to `first`, each of which x sees
+pub record Shrunk (m : Meaning) (s : ℕ → Type 0) (ring : List ℕ) (x : ℕ) : Type 0 where
+  pub first : ℕ
+  pub rest : List ℕ
+  pub last : ℕ
+  pub arrived : List ℕ
+  pub turned : Turned ring (x ∷ first ∷ rest ++ last ∷ [])
+  pub inside : AllByRecursion (λ c. AllByRecursion (λ b. b ≢ c) ring) arrived
+  pub seen : (p q : ℕ) → Step last arrived first p q → Left m p x q
+  pub arcs : (p q : ℕ) → Arc m s p q ↔ ((Arc m (adding s x) p q × (p ≢ x) × (q ≢ x)) ⊎ Step last arrived first p q)
+  pub hull : Hull m s (first ∷ rest ++ last ∷ arrived)
+
 -- the triangle h p q is around x
 pub record Around (m : Meaning) (h p q x : ℕ) : Type 0 where
   pub hpx : Left m h p x
