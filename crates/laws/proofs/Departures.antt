@@ -57,18 +57,12 @@ pub record Ahead (m : Meaning) (s : ℕ → Type 0) (n p q : ℕ) : Type 0 where
   pub left : (r : ℕ) → r < n → s r → r ≢ p → r ≢ q → Left m p q r
 
 module _ {m : Meaning} {s : ℕ → Type 0} {p q : ℕ} where
-  pub ahead_none : s q → p ≢ q → Ahead m s 0 p q
-  ahead_none h n = record { to = h; apart = n; left = λ r lt. absurd (omega arith) }
-
+  -- a mark that is not to the right of the way leaves the mark so far
   pub ahead_kept : {n : ℕ} → Ahead m s n p q → (s n → n ≢ p → n ≢ q → Left m p q n) → Ahead m s (n + 1) p q
   ahead_kept {n} a f = record { to = a.to; apart = a.apart; left = left }
     where
       left : (r : ℕ) → r < n + 1 → s r → r ≢ p → r ≢ q → Left m p q r
       left r lt h i j = elim (other r n) [ inl e ↦ subst (Left m p q) (sym e) (f (subst s e h) (subst (λ y. y ≢ p) e i) (subst (λ y. y ≢ q) e j)) | inr k ↦ a.left r (omega arith) h i j ]
-
-  -- with all marks seen, from p to q is an arc
-  pub ahead_all : Marks m s → s p → {n : ℕ} → m.count ≤ n → Ahead m s n p q → Arc m s p q
-  ahead_all marks h le a = record { from = h; to = a.to; apart = a.apart; left = λ r k. let lt = marks r k in a.left r (omega arith) k }
 
 module _ {m : Meaning} (L : Lawful m) {s : ℕ → Type 0} {u p : ℕ} (into : Arc m s u p) where
   -- about p, to which an arc comes from u, u is the last mark
@@ -114,11 +108,13 @@ before_apart : (a : ℕ) (l : List ℕ) (c : ℕ) (k : List ℕ) → Apart (a �
 before_apart a [] c k h = Ne-symm (all_before (λ b. b ≢ a) c k h.0)
 before_apart a (d ∷ l) c k h = before_apart d l c k h.1
 
-pub apart_more : (l : List ℕ) (c : ℕ) → Apart l → AllByRecursion (λ b. b ≢ c) l → Apart (l ++ c ∷ [])
+-- one mark more at the end of a list
+apart_more : (l : List ℕ) (c : ℕ) → Apart l → AllByRecursion (λ b. b ≢ c) l → Apart (l ++ c ∷ [])
 apart_more [] c h n = (tt, tt)
 apart_more (a ∷ l) c h n = (All-append _ l (c ∷ []) h.0 (Ne-symm n.0, tt), apart_more l c h.1 n.1)
 
 module _ {m : Meaning} {s : ℕ → Type 0} where
+  -- all marks of a way are of s
   goes_in : {a b : ℕ} {l : List ℕ} → Walk (Arc m s) a l b → AllByRecursion s (a ∷ l ++ b ∷ [])
   goes_in (end r) = (r.from, (r.to, tt))
   goes_in (on r w) = (r.from, goes_in w)
