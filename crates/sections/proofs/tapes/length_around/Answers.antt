@@ -27,7 +27,7 @@ pub sum-requires-clause-can : goal.sum-requires-clause-can
 sum-requires-clause-can c = (
   (tt, (λ _. tt, λ _. tt)),
   serves_from_places (given (goal.at.sum-requires-clause-can c).After-map) (λ x q k. search rules) (λ x k lt is.
-      let marks = marks_known c.args.points.now.places.now c.args.ring.now c.min.result k (x.0.now, x.1.now) c.min.ensures c.requires.marks (lt, is) in
+      let marks = marks_known c.args.places.now c.args.ring.now c.min.result k (x.0.now, x.1.now) c.min.ensures c.requires.marks (lt, is) in
       search rules),
 )
 
@@ -39,7 +39,7 @@ sum-requires-clause-fits c =
 
 pub returns : goal.returns
 returns c =
-    let ps = c.args.points.now.places.now in
+    let ps = c.args.places.now in
     let ring = c.args.ring.now in
     record {
       taped = taped ps ring c.min.result c.sum.result c.min.ensures
