@@ -1,6 +1,7 @@
 pub mod Polynomials
 pub mod Signs
 pub mod Plane
+pub mod FlatPoints
 pub mod StarLaws
 pub mod Circles
 pub mod Tests

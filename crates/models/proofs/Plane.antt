@@ -1,9 +1,9 @@
 -- A good list of places keeps the laws: its points are rows with w = 1.
-use Rattle.std.proofs.Common.{◌≡◌, ℕ, ◌+◌, ◌*◌, List, [], ◌∷◌, length, pos, sym, ◌∙◌, subst, arith}
+use Rattle.std.proofs.Common.{◌≡◌, ℕ, ◌+◌, ◌*◌, ◌≢◌, List, [], ◌∷◌, length, pos, sym, ◌∙◌, subst, arith}
 use mathlib.Core.Logic.{∥∥₁_elim}
 use mathlib.Core.HLevel.{Π_prop, ¬_prop}
 use native.Mathlib.Bridge.{le_prop}
-use Rattle.laws.specs.Systems.{Lawful}
+use Rattle.laws.specs.Systems.{Three, Lawful}
 use Rattle.models.specs.declared.places.Place.{Place}
 use Rattle.models.specs.Determinants.{Row, det, positive, by_sign, GeneralPosition}
 use Rattle.models.specs.Places.{Good, good-prop, near-prop, plane, place, cross, PointsKeepTheLaws}
@@ -40,6 +40,10 @@ general ps g =
       apart = all_apart (length ps) (rows ps)
           (λ i j k l m n e. g.bent i (omega arith) j (omega arith) l k n m (cross_is (place ps i) (place ps j) (place ps k) ∙ e));
     }
+
+-- no three different points of a good list lie on a line
+pub bent : (ps : List Place) → Good ps → {p q r : ℕ} → Three (length ps) p q r → cross (place ps p) (place ps q) (place ps r) ≢ pos 0
+bent ps g {p} {q} {r} t e = (general ps g).apart t (sym (cross_is (place ps p) (place ps q) (place ps r)) ∙ e)
 
 pub points_keep_the_laws : PointsKeepTheLaws
 points_keep_the_laws ps g = subst Lawful (sym (plane_is ps)) (lawful_by_sign (length ps) (rows ps) (general ps g))

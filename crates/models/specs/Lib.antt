@@ -1,5 +1,6 @@
 pub mod Determinants
 pub mod Places
+pub mod FlatPoints
 pub mod Stars
 pub mod Circles
 pub mod Spread

@@ -1,5 +1,6 @@
 -- Lists of places in the plane as systems of points.
-use Rattle.std.specs.Prelude.{◌≡◌, ℕ, ◌<◌, ◌≤◌, List, length, ℤ, pos, ◌-ℤ◌, ◌*ℤ◌, slice_index_or, unsigned_abs}
+use Rattle.std.specs.Prelude.{◌≡◌, ℕ, ◌<◌, ◌≤◌, Bool, ◌&&◌, ◌||◌, List, length, ℤ, pos, ◌-ℤ◌, ◌*ℤ◌, int_lt, slice_index_or, unsigned_abs}
+use Rattle.std.specs.Ordering.{int_eq}
 use Rattle.laws.specs.Systems.{Meaning, Lawful}
 use Rattle.models.specs.declared.places.Place.{Place}
 use Rattle.models.specs.Determinants.{positive}
@@ -10,6 +11,10 @@ pub record Near (p : Place) : Type 0 where
   pub x_near : unsigned_abs p.x ≤ 10000
   pub y_near : unsigned_abs p.y ≤ 10000
   deriving IsProp as near-prop
+
+-- whether p comes before q: places are ordered by x, and those with the same x by y
+abbrev pub before : Place → Place → Bool
+before p q = int_lt p.x q.x || int_eq p.x q.x && int_lt p.y q.y
 
 -- twice the signed area of the triangle p q r, above 0 if they turn left
 abbrev pub cross : Place → Place → Place → ℤ

@@ -4,22 +4,25 @@ use Rattle.std.proofs.lemmas.List.{drop_all}
 use Rattle.cc.specs.declared.faults.Fault.{Fault}
 use Rattle.sheet.specs.Sheets.{Declines, Holds, Lists, Others, Reads, Value, due, list, lists}
 use Rattle.sheet.specs.declared.Kind.{Kind}
-use Rattle.sheet.specs.declared.Kind.TheVariants.{Points, Network, Table}
+use Rattle.sheet.specs.declared.Kind.TheVariants.{Points, FlatPoints, Network, Table}
 use Rattle.sheet.proofs.Exact.{moved, one_answer, opens}
 
 -- lists that have just these values
 abbrev holding : (k : Kind) → List (Value k) → Lists
 holding Points ps = lists ps [] []
+holding FlatPoints ps = lists ps [] []
 holding Network cs = lists [] cs []
 holding Table ts = lists [] [] ts
 
 held : (k : Kind) (vs : List (Value k)) → list k (holding k vs) ≡ vs
 held Points ps = refl
+held FlatPoints ps = refl
 held Network cs = refl
 held Table ts = refl
 
 beside : (k : Kind) (vs ws : List (Value k)) → Others k (holding k vs) (holding k ws)
 beside Points ps qs = (refl, refl)
+beside FlatPoints ps qs = (refl, refl)
 beside Network cs ds = (refl, refl)
 beside Table ts us = (refl, refl)
 

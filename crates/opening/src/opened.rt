@@ -1,5 +1,6 @@
 //! The type of an opened sheet.
 
+use systems::flat_points::FlatPoints;
 use systems::networks::ReflectionNetwork;
 use systems::points::Points;
 use systems::tables::TurnTable;
@@ -8,6 +9,7 @@ use systems::tables::TurnTable;
 #[derive(Clone, Copy)]
 pub enum Opened<'a> {
     Points(Points<'a>),
+    FlatPoints(FlatPoints<'a>),
     Network(ReflectionNetwork<'a>),
     Table(TurnTable<'a>),
 }

@@ -3,13 +3,13 @@
 
 ghost use Rattle.std.specs.Prelude.{◌≡◌, ℕ, ◌^◌, ◌<◌, ◌≤◌, length, MatchResult};
 ghost use Rattle.laws.specs.First.{Never};
-ghost use Rattle.models.specs.Places.{Near, place};
+ghost use Rattle.models.specs.Places.{AllNear, Near, place};
 ghost use Rattle.sections.specs.Tapes.{Root, squared_parts, Parts, Strange, FirstStranger, TapeAnswer};
 
+use cc::LIMIT;
 use cc::faults::Fault;
-use cc::{CcSystem, LIMIT};
 use models::places::Place;
-use systems::points::Points;
+use systems::planar::Planar;
 
 // How many parts make a twentieth of a millimetre.
 const PARTS: u64 = 1_024;
@@ -27,21 +27,23 @@ fn step(p: Place, q: Place) -> u64
 }
 
 // The step from one mark to another.
-fn step_between(points: &Points<'_>, p: usize, q: usize) -> u64
-    requires p { p < length points.now.places.now }
-    requires q { q < length points.now.places.now }
-    ensures root { Root (squared_parts (place points.now.places.now p) (place points.now.places.now q)) result }
+fn step_between(places: &[Place], p: usize, q: usize) -> u64
+    requires near { AllNear places.now }
+    requires p { p < length places.now }
+    requires q { q < length places.now }
+    ensures root { Root (squared_parts (place places.now p) (place places.now q)) result }
     ensures small { result < 2 ^ 32 }
 {
-    let places = points.places();
     step(places[p], places[q])
 }
 
 // Whether every entry is a mark; the fault names the first entry that is none.
-fn check_marks(points: &Points<'_>, ring: &[usize]) -> Result<(), Fault>
-    ensures first { MatchResult result (λ _. Never (length ring.now) (Strange points.now.places.now ring.now)) (FirstStranger points.now.places.now ring.now) }
+fn check_marks(places: &[Place], ring: &[usize]) -> Result<(), Fault>
+    ensures first { MatchResult result
+        (λ _. Never (length ring.now) (Strange places.now ring.now))
+        (FirstStranger places.now ring.now) }
 {
-    let n = points.count();
+    let n = places.len();
     match ring.iter().find(|mark| **mark >= n) {
         Some(stranger) => Err(Fault::Stranger(*stranger)),
         None => Ok(()),
@@ -49,30 +51,32 @@ fn check_marks(points: &Points<'_>, ring: &[usize]) -> Result<(), Fault>
 }
 
 // The steps around the ring, added: the length in parts.
-fn parts_around(points: &Points<'_>, ring: &[usize]) -> u64
+fn parts_around(places: &[Place], ring: &[usize]) -> u64
+    requires near { AllNear places.now }
     requires few { length ring.now ≤ 128 }
-    requires marks { Never (length ring.now) (Strange points.now.places.now ring.now) }
-    ensures parts { Parts points.now.places.now ring.now result }
+    requires marks { Never (length ring.now) (Strange places.now ring.now) }
+    ensures parts { Parts places.now ring.now result }
     ensures small { result < 2 ^ 40 }
 {
     let (first, rest) = ring.split_at(ring.len().min(1));
     ring.iter()
         .zip(rest.iter().chain(first))
-        .map(|(p, q)| step_between(points, *p, *q))
+        .map(|(p, q)| step_between(places, *p, *q))
         .sum()
 }
 
-/// The length of a tape around a ring of points, in twentieths of a millimetre: the distances in parts from each entry to its follower
-/// (the first follows the last), each rounded down, added, and their sum rounded to whole twentieths. An empty ring and a single mark
-/// give 0.
+/// The length of a tape around a ring of points, or of flat points, in twentieths of a millimetre: the distances in parts from each entry
+/// to its follower (the first follows the last), each rounded down, added, and their sum rounded to whole twentieths. An empty ring and a
+/// single mark give 0.
 ///
 /// Refused are a ring of more than 128 entries (`Outsize(128)`), then the first entry that is no mark of the points (`Stranger`).
-pub fn tape(points: &Points<'_>, ring: &[usize]) -> Result<u64, Fault>
-    ensures answer { TapeAnswer points.now.places.now ring.now result }
+pub fn tape<'a, P: Planar<'a>>(points: &P, ring: &[usize]) -> Result<u64, Fault>
+    ensures answer { TapeAnswer (P.Planar.places points.now) ring.now result }
 {
     if ring.len() > LIMIT {
         return Err(Fault::Outsize(LIMIT));
     }
-    check_marks(points, ring)?;
-    Ok((parts_around(points, ring) + PARTS / 2) / PARTS)
+    let places = points.places();
+    check_marks(places, ring)?;
+    Ok((parts_around(places, ring) + PARTS / 2) / PARTS)
 }

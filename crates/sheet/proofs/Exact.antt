@@ -1,6 +1,7 @@
 -- A text has one answer.
-use Rattle.std.proofs.Common.{◌≡◌, ℕ, ◌^◌, ◌<◌, ◌≤◌, List, [], ◌∷◌, ◌++◌, length, get_or, drop, ℤ, pos, negsuc, Ok, Err, decimal, sym, refl, ap, ◌∙◌, subst, append-nil, arith}
+use Rattle.std.proofs.Common.{◌≡◌, ℕ, ◌^◌, ◌<◌, ◌≤◌, cond, List, [], ◌∷◌, ◌++◌, length, get_or, drop, ℤ, pos, negsuc, Ok, Err, decimal, sym, refl, ap, ◌∙◌, subst, append-nil, arith}
 use lib.Signed.{mag}
+use Rattle.std.specs.Prelude.{◌==◌}
 use Rattle.std.specs.Fmt.{signed_decimal}
 use Rattle.std.proofs.lemmas.Fmt.{decimal_injective, signed_decimal_injective}
 use Rattle.cc.specs.declared.Turn.{Turn}
@@ -15,7 +16,7 @@ use Rattle.sheet.specs.Sheets.{Declines, Holds, Lists, Opens, Others, Reads, Uno
 use Rattle.sheet.specs.Theorems.{OneAnswer}
 use Rattle.sheet.specs.Triples.{triple_at}
 use Rattle.sheet.specs.declared.Kind.{Kind}
-use Rattle.sheet.specs.declared.Kind.TheVariants.{Points, Network, Table}
+use Rattle.sheet.specs.declared.Kind.TheVariants.{Points, FlatPoints, Network, Table}
 use Rattle.sheet.specs.declared.spots.Triple.{Triple}
 use Rattle.sheet.specs.Cuts.{cut_unique}
 use Rattle.sheet.specs.FieldsLemmas.{decimal_lacks, signed_lacks}
@@ -24,17 +25,20 @@ use Rattle.sheet.specs.Marks.{mark_whole, same_mark}
 use Rattle.sheet.specs.Turnings.{crossing_whole, turn_whole}
 use Rattle.sheet.proofs.Unique.{Plain, agree, not_both, one_stop, same_line}
 
+-- the kind whose letter it is
+kind_of : ℕ → Kind
+kind_of b = cond (b == 80) Points (cond (b == 70) FlatPoints (cond (b == 87) Network Table))
+
+kind_is : (k : Kind) → kind_of (letter k) ≡ k
+unfolding kind_of
+kind_is Points = refl
+kind_is FlatPoints = refl
+kind_is Network = refl
+kind_is Table = refl
+
 -- a head says one kind and count
 same_letter : (a b : Kind) → letter a ≡ letter b → a ≡ b
-same_letter Points Points e = refl
-same_letter Points Network e = absurd (omega arith)
-same_letter Points Table e = absurd (omega arith)
-same_letter Network Points e = absurd (omega arith)
-same_letter Network Network e = refl
-same_letter Network Table e = absurd (omega arith)
-same_letter Table Points e = absurd (omega arith)
-same_letter Table Network e = absurd (omega arith)
-same_letter Table Table e = refl
+same_letter a b e = sym (kind_is a) ∙ ap kind_of e ∙ kind_is b
 
 pub plain_heads : Plain heads
 plain_heads =
@@ -91,6 +95,7 @@ plain_turns n =
 
 pub plain : (k : Kind) (n : ℕ) → Plain (form k n)
 plain Points n = plain_marks
+plain FlatPoints n = plain_marks
 plain Network n = plain_crossings n
 plain Table n = plain_turns n
 
@@ -167,6 +172,7 @@ module _ (text : List ℕ) where
     -- three lists are the same where the one that is read into and the two others are
     same_lists : (k : Kind) (a c : Lists) → list k a ≡ list k c → Others k b a → Others k b c → a ≡ c
     same_lists Points a c e p q = λ j. record { places = e j; crossings = (p.0 ∙ sym q.0) j; turns = (p.1 ∙ sym q.1) j }
+    same_lists FlatPoints a c e p q = λ j. record { places = e j; crossings = (p.0 ∙ sym q.0) j; turns = (p.1 ∙ sym q.1) j }
     same_lists Network a c e p q = λ j. record { places = (p.0 ∙ sym q.0) j; crossings = e j; turns = (p.1 ∙ sym q.1) j }
     same_lists Table a c e p q = λ j. record { places = (p.0 ∙ sym q.0) j; crossings = (p.1 ∙ sym q.1) j; turns = e j }
 

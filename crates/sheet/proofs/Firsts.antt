@@ -6,10 +6,10 @@ use Rattle.cc.specs.declared.Turn.TheVariants.{Left}
 use Rattle.cc.specs.declared.faults.Fault.{Fault}
 use Rattle.sheet.specs.Fields.{Lacks}
 use Rattle.sheet.specs.Forms.{Fine, Form, Stops, Wrong, lines, missing, surplus, torn, outsize}
-use Rattle.sheet.specs.Sheets.{Declines, Opens, Sheet, Unopened, Value, due, form, heads, limit, long, headless, overcount, unopened, stopped, tight, written}
+use Rattle.sheet.specs.Sheets.{Declines, Opens, Sheet, Unopened, Value, due, form, heads, limit, long, headless, overcount, unopened, stopped, tight, marks, written}
 use Rattle.sheet.specs.Theorems.{Begins, FirstLine, Lined, StopsAfter, none, more}
 use Rattle.sheet.specs.declared.Kind.{Kind}
-use Rattle.sheet.specs.declared.Kind.TheVariants.{Points, Network, Table}
+use Rattle.sheet.specs.declared.Kind.TheVariants.{Points, FlatPoints, Network, Table}
 use Rattle.sheet.specs.Cuts.{cut_unique, not_nil}
 use Rattle.sheet.proofs.Exact.{moved, not_opened, one_opening, opens, plain, sheet_goes}
 use Rattle.sheet.proofs.Heads.{count_six, head_whole}
@@ -37,6 +37,7 @@ fine_append f i (v ∷ vs) ws fine fine' =
 -- a value that any line may have
 abbrev some_value : (k : Kind) → Value k
 some_value Points = record { x = pos 0; y = pos 0 }
+some_value FlatPoints = record { x = pos 0; y = pos 0 }
 some_value Network = 0
 some_value Table = Left
 
@@ -44,12 +45,13 @@ fine_crossings : (n i m : ℕ) → 2 ≤ n → Fine (form Network n) i (replicat
 fine_crossings n i zero h = tt
 fine_crossings n i (suc m) h = (omega arith, omega arith, fine_crossings n (suc i) m h)
 
-fine_places : (n i m : ℕ) → Fine (form Points n) i (replicate m (some_value Points))
-fine_places n i zero = tt
-fine_places n i (suc m) = ((omega arith, omega arith), record { x_near = omega arith; y_near = omega arith }, fine_places n (suc i) m)
+fine_places : (i m : ℕ) → Fine marks i (replicate m (some_value Points))
+fine_places i zero = tt
+fine_places i (suc m) = ((omega arith, omega arith), record { x_near = omega arith; y_near = omega arith }, fine_places (suc i) m)
 
 fine_some : (k : Kind) (n i m : ℕ) → n ≤ limit k → i + m ≡ due k n → Fine (form k n) i (replicate m (some_value k))
-fine_some Points n i m few h = fine_places n i m
+fine_some Points n i m few h = fine_places i m
+fine_some FlatPoints n i m few h = fine_places i m
 fine_some Network zero i zero few h = tt
 fine_some Network zero i (suc m) few h = absurd (omega arith)
 fine_some Network (suc zero) i zero few h = tt

@@ -7,12 +7,13 @@ use Rattle.sheet.specs.Forms.{Flawed, formless, beyond}
 use Rattle.sheet.specs.Shapes.{letter}
 use Rattle.sheet.specs.Sheets.{heads, limit, Unopened, headless, overcount}
 use Rattle.sheet.specs.declared.Kind.{Kind}
-use Rattle.sheet.specs.declared.Kind.TheVariants.{Points, Network, Table}
+use Rattle.sheet.specs.declared.Kind.TheVariants.{Points, FlatPoints, Network, Table}
 use Rattle.sheet.specs.Cuts.{cut_none, cut_unique, lacks_cons}
 use Rattle.sheet.specs.FieldsLemmas.{decimal_lacks}
 
 letter_whole : (k : Kind) → letter k ≢ 10
 letter_whole Points e = omega arith
+letter_whole FlatPoints e = omega arith
 letter_whole Network e = omega arith
 letter_whole Table e = omega arith
 
@@ -24,6 +25,7 @@ head_whole v six =
 -- a count in range has at most six digits
 pub count_six : (k : Kind) (n : ℕ) → n ≤ limit k → Six n
 count_six Points n h = omega arith
+count_six FlatPoints n h = omega arith
 count_six Network n h = omega arith
 count_six Table n h = omega arith
 

@@ -3,6 +3,7 @@ use Rattle.std.proofs.Common.{ℕ, suc, ◌+◌, ◌-◌, ◌*◌, ◌<◌, ◌�
 use Rattle.std.specs.Fmt.{signed_decimal}
 use Rattle.std.proofs.lemmas.Fmt.{length-decimal-le}
 use Rattle.cc.specs.declared.Turn.{Turn}
+use Rattle.models.specs.declared.places.Place.{Place}
 use Rattle.sheet.specs.Fields.{Six, SixSigned}
 use Rattle.sheet.specs.Forms.{Fine, Form, lines}
 use Rattle.cc.specs.Texts.{side}
@@ -10,7 +11,7 @@ use Rattle.sheet.specs.Sheets.{Sheet, Value, crossings, due, form, heads, marks,
 use Rattle.sheet.specs.Theorems.{EveryTable, ShortEnough}
 use Rattle.sheet.specs.Triples.{triple_at}
 use Rattle.sheet.specs.declared.Kind.{Kind}
-use Rattle.sheet.specs.declared.Kind.TheVariants.{Points, Network, Table}
+use Rattle.sheet.specs.declared.Kind.TheVariants.{Points, FlatPoints, Network, Table}
 use Rattle.sheet.specs.declared.spots.Triple.{Triple}
 use Rattle.sheet.proofs.Heads.{count_six}
 use Rattle.sheet.proofs.Rising.{all_triples}
@@ -49,10 +50,14 @@ marks_under n at few h =
     let kn = b.kn in
     (omega arith, omega arith, omega arith)
 
+marks_short : (ps : List Place) → Fine marks 0 ps → length ps ≤ 128 → length (lines marks 0 ps) ≤ 30000
+marks_short ps fine few =
+    let some = lines_short marks 18 128 0 ps fine (omega arith) (λ j p h w. omega (arith, coordinate_short p.x w.0, coordinate_short p.y w.1, length-append (signed_decimal p.x) (9 ∷ signed_decimal p.y))) in
+    omega arith
+
 body_short : (k : Kind) (n : ℕ) (vs : List (Value k)) → Sheet k n vs → length (lines (form k n) 0 vs) ≤ 30000
-body_short Points n vs s =
-    let some = lines_short marks 18 n 0 vs s.fine (omega (arith, s.many)) (λ j p h w. omega (arith, coordinate_short p.x w.0, coordinate_short p.y w.1, length-append (signed_decimal p.x) (9 ∷ signed_decimal p.y))) in
-    omega (arith, s.many, s.limited)
+body_short Points n ps s = marks_short ps s.fine (omega (arith, s.many, s.limited))
+body_short FlatPoints n ps s = marks_short ps s.fine (omega (arith, s.many, s.limited))
 body_short Network n vs s =
     let few : due Network n ≤ 496 = pairs_few n (n - 1) s.limited (omega (arith, s.limited)) in
     let some = lines_short (crossings n) 9 (due Network n) 0 vs s.fine (omega (arith, s.many)) (λ j k h w. omega (arith, number_short k w)) in

@@ -7,7 +7,7 @@ use Rattle.sheet.specs.Forms.{Stops}
 use Rattle.sheet.specs.Sheets.{Declines, Holds, Lists, Opens, Value, due, form, limit, list, stopped, tight}
 use Rattle.sheet.specs.Turnings.{pairs_few, triples_few}
 use Rattle.sheet.specs.declared.Kind.{Kind}
-use Rattle.sheet.specs.declared.Kind.TheVariants.{Points, Network, Table}
+use Rattle.sheet.specs.declared.Kind.TheVariants.{Points, FlatPoints, Network, Table}
 
 module _ (k : Kind) (text : List ℕ) (n : ℕ) (rest : List ℕ) where
   -- a text whose lines stop is refused, where the kind and the number of lines due go by other names
@@ -18,11 +18,13 @@ module _ (k : Kind) (text : List ℕ) (n : ℕ) (rest : List ℕ) where
 -- the most lines that may be due
 abbrev pub most_due : Kind → ℕ
 most_due Points = 128
+most_due FlatPoints = 128
 most_due Network = 496
 most_due Table = 2024
 
 few_due : (k : Kind) (n : ℕ) → n ≤ limit k → due k n ≤ most_due k
 few_due Points n few = few
+few_due FlatPoints n few = few
 few_due Network n few = pairs_few n (n - 1) few (omega arith)
 few_due Table n few = triples_few n (n - 1) (n - 2) few (omega arith) (omega arith)
 

@@ -3,23 +3,26 @@ use Rattle.std.proofs.Common.{◌≡◌, List, ◌++◌, drop, Ok, sym, refl, ap
 use Rattle.sheet.specs.Sheets.{Lists, Others, Reads, Value, due, list, written}
 use Rattle.sheet.specs.Theorems.{RoundTrip}
 use Rattle.sheet.specs.declared.Kind.{Kind}
-use Rattle.sheet.specs.declared.Kind.TheVariants.{Points, Network, Table}
+use Rattle.sheet.specs.declared.Kind.TheVariants.{Points, FlatPoints, Network, Table}
 use Rattle.sheet.proofs.Exact.{one_answer}
 use Rattle.sheet.proofs.Lengths.{short_enough}
 
 -- the lists, with another one in the place of that of the kind
 abbrev put : (k : Kind) → List (Value k) → Lists → Lists
 put Points l b = record { places = l; crossings = b.crossings; turns = b.turns }
+put FlatPoints l b = record { places = l; crossings = b.crossings; turns = b.turns }
 put Network l b = record { places = b.places; crossings = l; turns = b.turns }
 put Table l b = record { places = b.places; crossings = b.crossings; turns = l }
 
 list_put : (k : Kind) (l : List (Value k)) (b : Lists) → list k (put k l b) ≡ l
 list_put Points l b = refl
+list_put FlatPoints l b = refl
 list_put Network l b = refl
 list_put Table l b = refl
 
 others_put : (k : Kind) (l : List (Value k)) (b : Lists) → Others k b (put k l b)
 others_put Points l b = (refl, refl)
+others_put FlatPoints l b = (refl, refl)
 others_put Network l b = (refl, refl)
 others_put Table l b = (refl, refl)
 

@@ -5,13 +5,14 @@ use Rattle.cc.specs.declared.Turn.{Turn}
 use Rattle.cc.specs.declared.texts.UnknownLetter.{UnknownLetter}
 use Rattle.sheet.specs.Fields.{Lacks}
 use Rattle.sheet.specs.declared.Kind.{Kind}
-use Rattle.sheet.specs.declared.Kind.TheVariants.{Points, Network, Table}
+use Rattle.sheet.specs.declared.Kind.TheVariants.{Points, FlatPoints, Network, Table}
 use Rattle.sheet.specs.declared.lines.Line.{Line}
 use Rattle.sheet.specs.declared.lines.Line.TheVariants as line
 
--- a kind's letter: P, W or T
+-- a kind's letter: P, F, W or T
 abbrev pub letter : Kind → ℕ
 letter Points = 80
+letter FlatPoints = 70
 letter Network = 87
 letter Table = 84
 
@@ -26,7 +27,7 @@ pub data Shape : Type 0 where
   crossing : List ℕ → Shape
   turning : List ℕ → List ℕ → List ℕ → Turn → Shape
 
--- P, W or T of a head, m of a mark, c of a crossing, t of a turn
+-- P, F, W or T of a head, m of a mark, c of a crossing, t of a turn
 abbrev pub initial : Shape → ℕ
 initial (head kind count) = letter kind
 initial (mark x y) = 109

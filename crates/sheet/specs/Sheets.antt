@@ -13,7 +13,7 @@ use Rattle.sheet.specs.Forms.{Fine, Form, Stops, lines}
 use Rattle.sheet.specs.Shapes.{spelled, head, mark, crossing, turning}
 use Rattle.sheet.specs.Triples.{triple_at}
 use Rattle.sheet.specs.declared.Kind.{Kind}
-use Rattle.sheet.specs.declared.Kind.TheVariants.{Points, Network, Table}
+use Rattle.sheet.specs.declared.Kind.TheVariants.{Points, FlatPoints, Network, Table}
 use Rattle.sheet.specs.declared.spots.Triple.{Triple}
 use Rattle.sheet.specs.declared.rooms.Room.{Room}
 use Rattle.sheet.specs.declared.rooms.Values.{Values}
@@ -22,12 +22,14 @@ use Rattle.sheet.specs.declared.rooms.Values.TheVariants as values
 -- the greatest count that a sheet of the kind may have
 abbrev pub limit : Kind → ℕ
 limit Points = 128
+limit FlatPoints = 128
 limit Network = 32
 limit Table = 24
 
 -- how many lines follow the head: one for each mark, for each pair, or for each triple
 abbrev pub due : Kind → ℕ → ℕ
 due Points n = n
+due FlatPoints n = n
 due Network n = pairs_of n
 due Table n = threes_of n
 
@@ -58,12 +60,14 @@ turns n = record { line = λ at. turn_line (triple_at n at); Written = λ at _. 
 -- what a line after the head says, in the sheets of a kind
 abbrev pub Value : Kind → Type 0
 Value Points = Place
+Value FlatPoints = Place
 Value Network = ℕ
 Value Table = Turn
 
 -- the form of the lines after the head, in the sheets of a kind and a count
 abbrev pub form : (k : Kind) → ℕ → Form (Value k)
 form Points n = marks
+form FlatPoints n = marks
 form Network n = crossings n
 form Table n = turns n
 
@@ -86,6 +90,7 @@ pub record Holds (text : List ℕ) (k : Kind) (n : ℕ) (vs : List (Value k)) : 
 -- the text is that of the sheet with these values
 abbrev pub Tells : List ℕ → Values → Type 0
 Tells text (values.Points ps) = Holds text Points (length ps.now) ps.now
+Tells text (values.FlatPoints ps) = Holds text FlatPoints (length ps.now) ps.now
 Tells text (values.Network n cs) = Holds text Network n cs.now
 Tells text (values.Table n ts) = Holds text Table n ts.now
 
@@ -114,12 +119,14 @@ lists ps cs ts = record { places = ps; crossings = cs; turns = ts }
 -- the list that a sheet of the kind is read into
 abbrev pub list : (k : Kind) → Lists → List (Value k)
 list Points l = l.places
+list FlatPoints l = l.places
 list Network l = l.crossings
 list Table l = l.turns
 
 -- the two other lists are as before
 abbrev pub Others : Kind → Lists → Lists → Type 0
 Others Points b a = (a.crossings ≡ b.crossings) × (a.turns ≡ b.turns)
+Others FlatPoints b a = (a.crossings ≡ b.crossings) × (a.turns ≡ b.turns)
 Others Network b a = (a.places ≡ b.places) × (a.turns ≡ b.turns)
 Others Table b a = (a.places ≡ b.places) × (a.crossings ≡ b.crossings)
 

@@ -1,6 +1,6 @@
 //! The text format of the library's inputs, read exactly.
 //!
-//! A sheet tells a list of places, the crossings of a reflection network, or a table of turns (docs/SHEETS.md).
+//! A sheet tells a list of places, as points or as flat points, the crossings of a reflection network, or a table of turns (docs/SHEETS.md).
 //! `specs/Sheets` says what the text of a sheet is; `read` gives back the one sheet that a text is, or says where it stops being one.
 
 #![tactic(auto)]
@@ -31,10 +31,12 @@ use std::fmt;
 // The most bytes that a sheet's text may have.
 const LONGEST: usize = 32_768;
 
-// The kind of a sheet, by what it tells: places (its letter is P), the crossings of a network (W), or a table of turns (T).
+/// The kind of a sheet, by what it tells: places as points (its letter is P) or as flat points, of which three or more may lie on one line
+/// (F), the crossings of a network (W), or a table of turns (T).
 #[derive(Clone, Copy, PartialEq, Eq, Debug)]
 pub enum Kind {
     Points,
+    FlatPoints,
     Network,
     Table,
 }
@@ -45,7 +47,7 @@ impl Kind {
         ensures limit { result ≡ limit self }
     {
         match self {
-            Kind::Points => LIMIT,
+            Kind::Points | Kind::FlatPoints => LIMIT,
             Kind::Network => WIRES,
             Kind::Table => IN_TABLE,
         }
@@ -57,7 +59,7 @@ impl Kind {
         ensures due { result ≡ due self (min count (limit self)) }
     {
         match self {
-            Kind::Points => count.min(self.limit()),
+            Kind::Points | Kind::FlatPoints => count.min(self.limit()),
             Kind::Network => pairs(count),
             Kind::Table => threes(count),
         }
@@ -73,6 +75,7 @@ impl TryFrom<u8> for Kind {
     fn try_from(letter: u8) -> Result<Kind, UnknownLetter> {
         match char::from(letter) {
             'P' => Ok(Kind::Points),
+            'F' => Ok(Kind::FlatPoints),
             'W' => Ok(Kind::Network),
             'T' => Ok(Kind::Table),
             _ => Err(UnknownLetter(letter)),
@@ -87,6 +90,7 @@ impl fmt::Display for Kind {
     fn fmt<W: fmt::Write>(&self, f: &mut fmt::Formatter<W>) -> fmt::Result {
         f.write_str(match self {
             Kind::Points => "P",
+            Kind::FlatPoints => "F",
             Kind::Network => "W",
             Kind::Table => "T",
         })
@@ -142,6 +146,7 @@ pub fn read(
     let mut room = Room::new();
     match room.read(text)? {
         Values::Points(values) => Ok((Kind::Points, copy_front(values, places)?)),
+        Values::FlatPoints(values) => Ok((Kind::FlatPoints, copy_front(values, places)?)),
         Values::Network {
             wires,
             crossings: values,
@@ -218,6 +223,17 @@ mod tests {
                 Values::Points([Place { x: -1, y: 5 }, Place { x: 0, y: -10_000 }])
             )
         );
+        let flat_points = room.read(b"F\t3\nm\t0\t0\nm\t0\t1\nm\t0\t2\n")?;
+        assert!(rt;
+            matches!(
+                flat_points,
+                Values::FlatPoints([
+                    Place { x: 0, y: 0 },
+                    Place { x: 0, y: 1 },
+                    Place { x: 0, y: 2 }
+                ])
+            )
+        );
         let network = room.read(b"W\t2\nc\t0\n")?;
         assert!(rt;
             matches!(
@@ -245,8 +261,13 @@ mod tests {
     #[test]
     fn a_kind_has_its_letter(rt: HostRuntime) -> Result<(), Fail> {
         assert_eq!(rt; Kind::try_from(b'W'), Ok(Kind::Network));
+        assert_eq!(rt; Kind::try_from(b'F'), Ok(Kind::FlatPoints));
         assert_eq!(rt; Kind::try_from(b'w'), Err(UnknownLetter(b'w')));
         assert_eq!(rt; format!(in rt.alloc(); "{}", Kind::Table)?.as_str(), "T");
+        assert_eq!(rt;
+            format!(in rt.alloc(); "{}", Kind::FlatPoints)?.as_str(),
+            "F"
+        );
         assert_eq!(rt; Kind::Table.due(Kind::Table.limit()), THREES);
         Ok(())
     }

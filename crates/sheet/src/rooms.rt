@@ -1,7 +1,8 @@
 //! Room for the values of a sheet, and reading into it.
 
-ghost use Rattle.std.specs.Prelude.{◌≡◌, ◌≤◌, MatchResult};
-ghost use Rattle.sheet.specs.Sheets.{Blank, Declines, Lists, Tells};
+ghost use Rattle.std.specs.Prelude.{◌≡◌, ◌≤◌, [], length, MatchResult};
+ghost use Rattle.sheet.specs.Forms.{Stops, Upto};
+ghost use Rattle.sheet.specs.Sheets.{Blank, Declines, Lists, Tells, marks};
 
 use super::entries::read_lines;
 use super::{Head, Kind, opening};
@@ -10,10 +11,11 @@ use cc::{LIMIT, Turn};
 use models::counts::{PAIRS, THREES};
 use models::places::Place;
 
-// The values of a sheet, and its count where that is not the number of its values.
+/// The values of a sheet, and its count where that is not the number of its values.
 #[derive(Clone, Copy)]
 pub enum Values<'a> {
     Points(&'a [Place]),
+    FlatPoints(&'a [Place]),
     Network {
         wires: usize,
         crossings: &'a [usize],
@@ -45,19 +47,27 @@ impl Room {
         }
     }
 
+    // Reads so many places, one a line, and lends them.
+    fn read_places(&mut self, text: &[u8], count: usize) -> Result<&[Place], Fault>
+        requires few { count ≤ 128 }
+        ensures read { MatchResult result
+            (λ ps. (length ps.now ≡ count) × Upto marks text.now ps.now [])
+            (Stops marks count text.now) }
+    {
+        let places = &mut self.places[..count];
+        read_lines(text, count, places)?;
+        Ok(places)
+    }
+
     // Reads a sheet, and lends its values. A text that is refused here is refused by the function `read` too, whatever lists that is given.
     pub fn read(&mut self, text: &[u8]) -> Result<Values<'_>, Fault>
         ensures told { MatchResult result (Tells text.now) (λ fault. (room : Lists) → Declines text.now room fault) }
     {
         let (Head { kind, count }, rest) = opening(text)?;
         let due = kind.due(count);
-        // stay three arms, as in the function `read`: the values of each kind have their own type, and `read_lines` reads all three
         match kind {
-            Kind::Points => {
-                let places = &mut self.places[..due];
-                read_lines(rest, count, places)?;
-                Ok(Values::Points(places))
-            }
+            Kind::Points => Ok(Values::Points(self.read_places(rest, count)?)),
+            Kind::FlatPoints => Ok(Values::FlatPoints(self.read_places(rest, count)?)),
             Kind::Network => {
                 let crossings = &mut self.crossings[..due];
                 read_lines(rest, count, crossings)?;

@@ -2,6 +2,7 @@ mod Bounded
 mod Differences
 mod Counts
 pub mod OneJudgement
+pub mod OneFlatJudgement
 pub mod OneStarJudgement
 pub mod Judging
 mod Passing

@@ -1,4 +1,5 @@
 pub mod Openings
+pub mod FlatPoints
 pub mod Offsets
 pub mod Orders
 pub mod Opened

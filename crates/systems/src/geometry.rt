@@ -1,25 +1,29 @@
 //! Checks of a list of places, and the exact determinant of three of them.
 
-ghost use Rattle.std.specs.Prelude.{◌≡◌, ◌<◌, ◌≤◌, length, ◌-ℤ◌, ◌*ℤ◌, MatchBool, MatchOption, unsigned_abs};
+ghost use Rattle.std.specs.Prelude.{◌≡◌, ◌<◌, ◌≤◌, length, ◌-ℤ◌, ◌*ℤ◌, MatchBool, MatchOption, MatchResult, unsigned_abs};
 ghost use Rattle.laws.specs.First.{First, FirstPair, NeverPair};
 ghost use Rattle.models.specs.Places.{Near, AllNear, Far, Twins, InLine, cross};
+ghost use Rattle.models.specs.FlatPoints.{Distinct};
 ghost use Rattle.models.specs.Determinants.{det};
 ghost use Rattle.models.specs.Stars.{seen, OnCircle};
+ghost use Rattle.systems.specs.FlatPoints.{Refused};
 ghost use Rattle.systems.specs.Offsets.{Leads, row};
 
 use super::offsets::{Arm, Offset};
 use super::searches::OfThree;
+use cc::LIMIT;
+use cc::faults::Fault;
 use models::places::Place;
 
 // The first place that is out of range.
-pub(crate) fn outside(places: &[Place]) -> Option<usize>
+fn outside(places: &[Place]) -> Option<usize>
     ensures first { MatchOption result (AllNear places.now) (First (length places.now) (Far places.now)) }
 {
     places.iter().position(|place| !place.is_near())
 }
 
 // The first two places, in rising order, that are alike.
-pub(crate) fn twins(places: &[Place]) -> Option<(usize, usize)>
+fn twins(places: &[Place]) -> Option<(usize, usize)>
     ensures first { MatchOption result (NeverPair (length places.now) (Twins places.now)) (λ p. FirstPair (length places.now) (Twins places.now) p.0 p.1) }
 {
     // stays nested loops: two numbers are sought, and `find_map` with a `find` inside is no plainer
@@ -31,6 +35,22 @@ pub(crate) fn twins(places: &[Place]) -> Option<(usize, usize)>
         }
     }
     None
+}
+
+// Whether a list has at most 128 places, all of them in range, and no two alike; its first fault if it has not.
+pub(crate) fn check_distinct(places: &[Place]) -> Result<(), Fault>
+    ensures judged { MatchResult result (λ _. Distinct places.now) (Refused places.now) }
+{
+    if places.len() > LIMIT {
+        return Err(Fault::Outsize(LIMIT));
+    }
+    if let Some(i) = outside(places) {
+        return Err(Fault::Outsize(i));
+    }
+    match twins(places) {
+        Some((i, j)) => Err(Fault::Twin(i, j)),
+        None => Ok(()),
+    }
 }
 
 impl Offset {

@@ -1,14 +1,18 @@
-use Rattle.std.proofs.Common.{arith}
+use Rattle.std.proofs.Common.{refl, arith}
 use Rattle.std.proofs.lemmas.Result.{err_from_is_err_and}
-use Rattle.sheet.specs.declared.Kind.TheVariants.{Points, Network, Table}
+use Rattle.sheet.specs.declared.Kind.TheVariants.{Points, FlatPoints, Network, Table}
 use Rattle.sheet.proofs.Readings.{due_taken, stops}
 use Rattle.sheet.proofs.rooms.Room.read.Goals as goal
 
-pub returns-in_err-read_lines-in-Points : goal.returns-in_err-read_lines-in-Points
-returns-in_err-read_lines-in-Points c =
-    let p = err_from_is_err_and c.from_residual-in_err-read_lines-in-Points.result c.from_residual-in_err-read_lines-in-Points.ensures.1 in
-    let due = due_taken _ Points _ _ c.args.self.now.places c.in-Points.is c.due-due.ensures.due c.in_ok-kind.ensures.opened.limited (omega arith) in
-    rw (p.1, p.2) (record { told = stops Points _ _ _ _ _ _ c.in-Points.is due c.in_ok-kind.ensures.opened c.in_err-read_lines-in-Points.ensures.read })
+pub returns-in_err-read_places-in-Points : goal.returns-in_err-read_places-in-Points
+returns-in_err-read_places-in-Points c =
+    let p = err_from_is_err_and c.from_residual-in_err-read_places-in-Points.result c.from_residual-in_err-read_places-in-Points.ensures.1 in
+    rw (p.1, p.2) (record { told = stops Points _ _ _ _ _ _ c.in-Points.is refl c.in_ok-kind.ensures.opened c.in_err-read_places-in-Points.ensures.read })
+
+pub returns-in_err-read_places-in-FlatPoints : goal.returns-in_err-read_places-in-FlatPoints
+returns-in_err-read_places-in-FlatPoints c =
+    let p = err_from_is_err_and c.from_residual-in_err-read_places-in-FlatPoints.result c.from_residual-in_err-read_places-in-FlatPoints.ensures.1 in
+    rw (p.1, p.2) (record { told = stops FlatPoints _ _ _ _ _ _ c.in-FlatPoints.is refl c.in_ok-kind.ensures.opened c.in_err-read_places-in-FlatPoints.ensures.read })
 
 pub returns-in_err-read_lines-in-Network : goal.returns-in_err-read_lines-in-Network
 returns-in_err-read_lines-in-Network c =
