@@ -1,26 +1,29 @@
 -- A text has one report.
-use Rattle.std.proofs.Common.{◌≡◌, ℕ, List, ◌++◌, length, Some, None, Ok, codes, sym, refl, ap, subst, ap₂, arith, ltb→lt}
+use Rattle.std.proofs.Common.{◌≡◌, ℕ, ◌≤◌, List, ◌++◌, length, Some, None, Ok, codes, sym, refl, ap, subst, ap₂, arith}
 use Rattle.cc.specs.declared.faults.Fault.{Fault}
 use Rattle.laws.specs.Systems.{Lawful}
+use Rattle.laws.specs.First.{Never}
 use Rattle.models.specs.declared.places.Place.{Place}
 use Rattle.models.specs.Places.{plane}
+use Rattle.models.specs.FlatPoints.{flat_points}
 use Rattle.runs.specs.Calls.{RingOf}
-use Rattle.runs.proofs.Standing.{ring_in, ring_same}
+use Rattle.runs.proofs.Standing.{ring_same}
 use Rattle.runs.proofs.Decided.{entries_same}
 use Rattle.systems.specs.Openings.{Starred, StarRefused}
 use Rattle.systems.proofs.OneStarJudgement.{one_star_judgement}
-use Rattle.sections.specs.Tapes.{Taped, TapeMeasured}
+use Rattle.sections.specs.Tapes.{Strange, Taped, TapeMeasured}
 use Rattle.sections.proofs.Lengths.{one_tape_answer}
 use Rattle.sections.proofs.OneStar.{one_list}
 use Rattle.sheet.specs.Sheets.{Value}
 use Rattle.sheet.specs.declared.Kind.{Kind}
-use Rattle.sheet.specs.declared.Kind.TheVariants.{Points, Network, Table}
+use Rattle.sheet.specs.declared.Kind.TheVariants.{Points, FlatPoints, Network, Table}
 use Rattle.reports.specs.Lines.{fault_line, kind_line, ring_line, round_lines, pair_lines, tape_line}
 use Rattle.reports.specs.Layers.{first}
 use Rattle.opening.specs.Opening.{system}
-use Rattle.reports.specs.Reports.{StarTold, no_centre, pairs, TapeTold, tape, Sections, of_points, of_network, of_table, Told, OneReport}
+use Rattle.reports.specs.Reports.{StarTold, no_centre, pairs, TapeTold, tape, Sections, of_points, of_flat_points, of_network, of_table, Told, OneReport}
 use Rattle.reports.specs.Reports as report
-use Rattle.reports.proofs.Adding.{first_marks, ring_few}
+use Rattle.reports.proofs.Adding.{first_marks}
+use Rattle.reports.proofs.Telling.{ring_of_marks}
 use Rattle.opening.proofs.OneSheet.{not_refused, one_refusal, same_sheet}
 use Rattle.opening.proofs.OneJudgement.{accepted_lawful, not_judged, one_judged}
 
@@ -38,23 +41,18 @@ one_star ps (report.refused f lt r) (no_centre e) = absurd (omega arith)
 one_star ps (report.refused f lt r) (pairs s a) = absurd (not_starred ps 0 f r s)
 one_star ps (report.refused f lt r) (report.refused g lt' r') = let e = one_star_judgement ps 0 (Some f) (Some g) r r' in ap (fault_line (codes "star\tno")) cc
 
--- the ring of all points is taped, and one length is told
-measured : (ps : List Place) (ring : List ℕ) (total : ℕ) → Lawful (plane ps) → RingOf (plane ps) (first (length ps)) ring → Taped ps ring total → TapeMeasured ps ring total
-measured ps ring total L r t =
-    let few = ring_few (plane ps) ring r in
-    record {
-      few = omega (arith, few, L.limit);
-      marks = λ i lt strange. omega (arith, strange, ltb→lt _ (length ps) (ring_in L r (i, lt, refl)));
-      taped = t;
-    }
-
-one_tape : (ps : List Place) (ring : List ℕ) {out out' : List ℕ} → Lawful (plane ps) → RingOf (plane ps) (first (length ps)) ring → TapeTold ps ring out → TapeTold ps ring out' → out ≡ out'
-one_tape ps ring L r (tape {total = t} h) (tape {total = u} k) =
-    let e = one_tape_answer ps ring (Ok t) (Ok u) (measured ps ring t L r h) (measured ps ring u L r k) in ap tape_line cc
+-- around a ring of marks one length is told
+one_tape : (ps : List Place) (ring : List ℕ) {out out' : List ℕ} → (length ring ≤ 128) × Never (length ring) (Strange ps ring) → TapeTold ps ring out → TapeTold ps ring out' → out ≡ out'
+one_tape ps ring fits (tape {total = t} h) (tape {total = u} k) =
+    let e = one_tape_answer ps ring (Ok t) (Ok u) (measured t h) (measured u k) in ap tape_line cc
+  where
+    measured : (total : ℕ) → Taped ps ring total → TapeMeasured ps ring total
+    measured total taped = record { few = fits.0; marks = fits.1; taped = taped }
 
 one_section : (k : Kind) (n : ℕ) (vs : List (Value k)) (ring : List ℕ) {out out' : List ℕ} → Lawful (system k n vs) → RingOf (system k n vs) (first (system k n vs).count) ring
     → Sections k vs ring out → Sections k vs ring out' → out ≡ out'
-one_section Points n ps ring L r (of_points s t) (of_points s' t') = ap₂ ◌++◌ (one_star ps s s') (one_tape ps ring L r t t')
+one_section Points n ps ring L r (of_points s t) (of_points s' t') = ap₂ ◌++◌ (one_star ps s s') (one_tape ps ring (ring_of_marks (plane ps) ps ring L refl r) t t')
+one_section FlatPoints n ps ring L r (of_flat_points t) (of_flat_points t') = one_tape ps ring (ring_of_marks (flat_points ps) ps ring L refl r) t t'
 one_section Network n cs ring L r of_network of_network = refl
 one_section Table n ts ring L r of_table of_table = refl
 

@@ -1,24 +1,27 @@
 -- The report of an opened system, put together from what was written.
-use Rattle.std.proofs.Common.{◌≡◌, ℕ, zero, suc, ◌<◌, ◌≤◌, List, [], ◌++◌, length, None, codes, sym, refl, ap, ◌∙◌, subst, append_assoc, arith, ltb→lt}
+use Rattle.std.proofs.Common.{◌≡◌, ℕ, zero, suc, ◌<◌, ◌≤◌, ◌⊎◌, List, [], ◌++◌, length, None, codes, sym, refl, ap, ◌∙◌, subst, inl, inr, append_assoc, arith, ltb→lt}
 use Rattle.cc.specs.declared.faults.Fault.{Fault}
-use Rattle.laws.specs.Systems.{Lawful}
+use Rattle.laws.specs.Systems.{Meaning, Lawful}
+use Rattle.laws.specs.First.{Never}
 use Rattle.models.specs.declared.places.Place.{Place}
-use Rattle.models.specs.Places.{plane}
 use Rattle.runs.specs.Calls.{RingOf}
 use Rattle.runs.proofs.Standing.{ring_in}
 use Rattle.systems.specs.Openings.{StarRefused}
 use Rattle.sections.specs.Delaunay.{StarPairs, StarDeclined, pair, refused, tight}
-use Rattle.sections.specs.Tapes.{TapeRefused}
+use Rattle.sections.specs.Tapes.{Strange, TapeRefused}
 use Rattle.sheet.specs.declared.Kind.{Kind}
 use Rattle.reports.specs.Lines.{fault_line, kind_line, ring_line, round_lines}
 use Rattle.reports.specs.Layers.{first, Layered}
 use Rattle.systems.specs.declared.points.Points.{Points}
+use Rattle.systems.specs.declared.flat_points.FlatPoints.{FlatPoints}
+use Rattle.systems.specs.declared.networks.ReflectionNetwork.{ReflectionNetwork}
+use Rattle.systems.specs.declared.tables.TurnTable.{TurnTable}
 use Rattle.opening.specs.declared.opened.Opened.{Opened}
 use Rattle.opening.specs.declared.opened.Opened.TheVariants as opened
 use Rattle.opening.specs.Opening.{Judged, Opens, Refused, count_of, kind_of, meaning_of, unopened, unread, values_of}
 use Rattle.reports.specs.Reports as report
 use Rattle.reports.proofs.Texts.{from_empty}
-use Rattle.reports.specs.Reports.{Adds, Reports, Sections, StarTold, TapeTold, Told, of_network, of_points, of_table, told}
+use Rattle.reports.specs.Reports.{Adds, Reports, Sections, StarTold, TapeTold, Told, of_flat_points, of_network, of_points, of_table, told}
 use Rattle.reports.proofs.Adding.{ring_few}
 
 -- the first points of a star's pairs rise, so there are no more pairs than points
@@ -34,27 +37,31 @@ pub star_fits : (ps : List Place) (c : ℕ) (f : Fault) → length ps ≤ 128 �
 star_fits ps c f small (refused r) = r
 star_fits ps c f small (tight {l = l} _ s lt) = absurd (pairs_few ps c l s (omega arith))
 
--- the ring of all points is taped
-pub tape_fits : (ps : List Place) (ring : List ℕ) (f : Fault) → Lawful (plane ps) → RingOf (plane ps) (first (length ps)) ring → TapeRefused ps ring f → ⊥
-tape_fits ps ring f L r h =
-    let i = ring_few (plane ps) ring r in
-    let j = L.limit in
-    let s = h.strange (omega arith) in
-    let k = ltb→lt _ (length ps) (ring_in L r (s.at, s.first.within, refl)) in
-    let n = s.first.holds in
-    omega arith
+-- the ring of all marks of a system, whose marks are places, has at most 128 entries, and all of them are marks
+pub ring_of_marks : (m : Meaning) (ps : List Place) (ring : List ℕ) → Lawful m → m.count ≡ length ps → RingOf m (first m.count) ring
+    → (length ring ≤ 128) × Never (length ring) (Strange ps ring)
+ring_of_marks m ps ring L many r =
+    let few = ring_few m ring r in
+    let limit = L.limit in (
+      omega arith,
+      λ i lt strange. let under = ltb→lt _ m.count (ring_in L r (i, lt, refl)) in omega arith,
+    )
+
+-- around such a ring a tape is not refused
+pub tape_fits : (ps : List Place) (ring : List ℕ) (f : Fault) → length ring ≤ 128 → Never (length ring) (Strange ps ring) → TapeRefused ps ring f → ⊥
+tape_fits ps ring f few marks h = let s = h.strange few in marks s.at s.first.within s.first.holds
 
 -- the count that is told is that of the system
 counted : (o : Opened) → (meaning_of o).count ≡ count_of o
 counted (opened.Points p) = refl
+counted (opened.FlatPoints p) = refl
 counted (opened.Network w) = refl
 counted (opened.Table t) = refl
 
--- a system that is no points has no more lines than those of its layers
-pub plain : (o : Opened) (ring : List ℕ) → ((p : Points) → o ≡ opened.Points p → ⊥) → Sections (kind_of o) (values_of o) ring []
-plain (opened.Points p) ring none = absurd (none p refl)
-plain (opened.Network w) ring none = of_network
-plain (opened.Table t) ring none = of_table
+-- a network and a table have no more lines than those of their layers
+pub plain : (o : Opened) (ring : List ℕ) → ((w : ReflectionNetwork) × (o ≡ opened.Network w)) ⊎ ((t : TurnTable) × (o ≡ opened.Table t)) → Sections (kind_of o) (values_of o) ring []
+plain o ring (inl (w, is)) = subst (λ o. Sections (kind_of o) (values_of o) ring []) (sym is) of_network
+plain o ring (inr (t, is)) = subst (λ o. Sections (kind_of o) (values_of o) ring []) (sym is) of_table
 
 -- the layers of a system, and what follows them
 pub told_with : (o : Opened) (kind : Kind) (n : ℕ) (ring rounds rest before after last : List ℕ) → Judged (kind_of o) (count_of o) (values_of o) None → kind ≡ kind_of o → n ≡ (meaning_of o).count
@@ -72,6 +79,11 @@ pub pointed : (o : Opened) (p : Points) (ring ring' star tape : List ℕ) → o 
     → Sections (kind_of o) (values_of o) ring (star ++ tape)
 pointed o p ring ring' star tape is same s t =
     subst (λ o. Sections (kind_of o) (values_of o) ring (star ++ tape)) (sym is) (of_points s (subst (λ r. TapeTold p.places.now r tape) same t))
+
+-- the tape of a system of flat points
+pub flat_pointed : (o : Opened) (p : FlatPoints) (ring ring' tape : List ℕ) → o ≡ opened.FlatPoints p → ring' ≡ ring → TapeTold p.places.now ring' tape → Sections (kind_of o) (values_of o) ring tape
+flat_pointed o p ring ring' tape is same t =
+    subst (λ o. Sections (kind_of o) (values_of o) ring tape) (sym is) (of_flat_points (subst (λ r. TapeTold p.places.now r tape) same t))
 
 -- a text that is refused
 pub refusal_reported : (text : List ℕ) (f : Fault) (before after : List ℕ) → Refused text f → before ≡ [] → after ≡ before ++ fault_line (codes "no") f → Reports text after

@@ -10,6 +10,11 @@ two_writes e x y a b p q = q ∙ (ap (λ k. k ++ b) p ∙ append_assoc e a b)
 pub from_empty : (e x t : List ℕ) → e ≡ [] → x ≡ e ++ t → x ≡ t
 from_empty e x t p q = q ∙ ap (λ k. k ++ t) p
 
+-- what follows from what holds where a call succeeds
+pub on_ok : {V E P Q : Type 0} (r : Result V E) → (P → Q) → OnOk r P → OnOk r Q
+on_ok (Ok _) f p = f p
+on_ok (Err _) f p = tt
+
 -- what a text that was added at the end says
 pub adding : {V E : Type 0} (P : List ℕ → Type 0) (r : Result V E) (before after text : List ℕ) → P text → OnOk r (after ≡ before ++ text) → OnOk r (Adds P before after)
 adding P (Ok _) before after text told is = (text, told, is)

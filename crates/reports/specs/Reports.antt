@@ -8,7 +8,7 @@ use Rattle.sections.specs.Tapes.{Taped}
 use Rattle.opening.specs.Opening.{Judged, system}
 use Rattle.sheet.specs.Sheets.{Declines, Holds, Lists, Value}
 use Rattle.sheet.specs.declared.Kind.{Kind}
-use Rattle.sheet.specs.declared.Kind.TheVariants.{Points, Network, Table}
+use Rattle.sheet.specs.declared.Kind.TheVariants.{Points, FlatPoints, Network, Table}
 use Rattle.reports.specs.Lines.{fault_line, kind_line, ring_line, round_lines, pair_lines, tape_line}
 use Rattle.reports.specs.Layers.{Layered}
 
@@ -22,9 +22,10 @@ pub data StarTold (ps : List Place) : List ℕ → Type 0 where
 pub data TapeTold (ps : List Place) (ring : List ℕ) : List ℕ → Type 0 where
   tape : {total : ℕ} → Taped ps ring total → TapeTold ps ring (tape_line total)
 
--- what follows the rounds: for points the star about mark 0, and the tape around the ring
+-- what follows the rounds: for points the star about mark 0, and the tape around the ring; for flat points the tape alone
 pub data Sections : (k : Kind) → List (Value k) → List ℕ → List ℕ → Type 0 where
   of_points : {ps : List Place} {ring star tape : List ℕ} → StarTold ps star → TapeTold ps ring tape → Sections Points ps ring (star ++ tape)
+  of_flat_points : {ps : List Place} {ring tape : List ℕ} → TapeTold ps ring tape → Sections FlatPoints ps ring tape
   of_network : {cs : List (Value Network)} {ring : List ℕ} → Sections Network cs ring []
   of_table : {ts : List (Value Table)} {ring : List ℕ} → Sections Table ts ring []
 

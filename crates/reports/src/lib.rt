@@ -1,5 +1,6 @@
-//! The report of a sheet: its kind and count, the outline and the rounds of all its marks, and for points the star
-//! about mark 0 and the tape around the outline; or the refusal of a text that is no sheet, or of a list that is no system.
+//! The report of a sheet: its kind and count, the outline and the rounds of all its marks, for points the star about mark 0,
+//! and for points and flat points the tape around the outline; or the refusal of a text that is no sheet, or of a list that is
+//! no system.
 
 #![tactic(auto)]
 

@@ -1,11 +1,10 @@
 //! The report of a system that a sheet was opened as.
 
-ghost use Rattle.std.specs.Prelude.{◌≡◌, ◌++◌, length, None, string_bytes, OnOk};
-ghost use Rattle.models.specs.Places.{plane};
-ghost use Rattle.runs.specs.Calls.{RingOf};
+ghost use Rattle.std.specs.Prelude.{◌≡◌, ◌≤◌, ◌++◌, length, None, string_bytes, OnOk};
+ghost use Rattle.laws.specs.First.{Never};
+ghost use Rattle.sections.specs.Tapes.{Strange};
 ghost use Rattle.opening.specs.Opening.{Judged, count_of, kind_of, values_of};
 ghost use Rattle.reports.specs.Lines.{kind_line, ring_line, round_lines};
-ghost use Rattle.reports.specs.Layers.{first};
 ghost use Rattle.reports.specs.Reports.{Adds, StarTold, TapeTold, Told};
 
 use super::layering::layers_of;
@@ -19,6 +18,7 @@ use sections::tapes::tape;
 use sheet::Kind;
 use std::alloc::AllocError;
 use std::fmt::Write;
+use systems::planar::Planar;
 use systems::points::Points;
 
 // Writes the kind and the count, the ring and the rounds.
@@ -49,10 +49,17 @@ fn write_star(out: &mut String, points: &Points<'_>) -> Result<(), AllocError>
     }
 }
 
-// Writes the length of a tape around the ring of all points.
-fn write_tape(out: &mut String, points: &Points<'_>, ring: &[usize]) -> Result<(), AllocError>
-    requires ring { RingOf (plane points.now.places.now) (first (length points.now.places.now)) ring.now }
-    ensures told { OnOk result (Adds (TapeTold points.now.places.now ring.now) (string_bytes out.old) (string_bytes out.new)) }
+// Writes the length of a tape around a ring of places.
+fn write_tape<'a, P: Planar<'a>>(
+    out: &mut String,
+    points: &P,
+    ring: &[usize],
+) -> Result<(), AllocError>
+    requires few { length ring.now ≤ 128 }
+    requires marks { Never (length ring.now) (Strange (P.Planar.places points.now) ring.now) }
+    ensures told { OnOk result
+        (Adds (TapeTold (P.Planar.places points.now) ring.now)
+        (string_bytes out.old) (string_bytes out.new)) }
 {
     let Ok(total) = tape(points, ring) else {
         unreachable()
@@ -67,9 +74,12 @@ pub(crate) fn write_told(out: &mut String, system: &Opened<'_>) -> Result<(), Al
 {
     let layers = layers_of(*system);
     write_layers(out, system.kind(), &layers)?;
-    if let Opened::Points(points) = system {
-        write_star(out, points)?;
-        write_tape(out, points, &layers.ring)?;
+    match system {
+        Opened::Points(points) => {
+            write_star(out, points)?;
+            write_tape(out, points, &layers.ring)
+        }
+        Opened::FlatPoints(flat) => write_tape(out, flat, &layers.ring),
+        Opened::Network(_) | Opened::Table(_) => Ok(()),
     }
-    Ok(())
 }
