@@ -38,7 +38,8 @@ pub fn console(
     }
 }
 
-// The same over the star about a mark of the sheet's places; the layers are put over the star.
+/// The same over the star about a mark of the sheet's points; the layers are put over the star. A sheet of another kind, of flat points too,
+/// has no star, and one line says so.
 pub fn star_console(
     heap: Global,
     text: &[u8],
@@ -56,7 +57,7 @@ pub fn star_console(
     };
     match system {
         Opened::Points(points) => over_star(heap, &points, centre, layers, script),
-        Opened::Network(_) | Opened::Table(_) => no_star(heap),
+        Opened::FlatPoints(_) | Opened::Network(_) | Opened::Table(_) => no_star(heap),
     }
 }
 
@@ -100,6 +101,9 @@ mod tests {
         assert!(rt; said.is_ok_and(|said| said.as_str() == "no\t6\t1\t2\t3\n"));
         let network = b"W\t2\nc\t0\n";
         let said = star_console(rt.alloc(), network, 0, b"", CALLS);
+        assert!(rt; said.is_ok_and(|said| said.as_str() == "?\tstar\n"));
+        let flat = b"F\t3\nm\t0\t0\nm\t2\t0\nm\t0\t2\n";
+        let said = star_console(rt.alloc(), flat, 0, b"", CALLS);
         assert!(rt; said.is_ok_and(|said| said.as_str() == "?\tstar\n"));
     }
 }

@@ -9,7 +9,7 @@ use std::alloc::{AllocError, Global};
 use systems::points::Points;
 use systems::stars::Star;
 
-// The line for a sheet that has no places.
+// The line for a sheet that has no star.
 pub(crate) fn no_star(heap: Global) -> Result<String, AllocError>
     ensures line { IfOk result (λ out. string_bytes out ≡ no_star_line) }
 {
