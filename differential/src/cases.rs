@@ -50,6 +50,40 @@ fn places(random: &mut Random) -> Vec<(i64, i64)> {
     (0..n).map(|_| (coordinate(random), coordinate(random))).collect()
 }
 
+/// Places of which many lie on one line: in rows, in columns, on a lattice, or nearly all of them on one line; now and then anywhere. Now and
+/// then two are alike.
+fn flat_places(random: &mut Random) -> Vec<(i64, i64)> {
+    let form = random.below(5);
+    if form == 4 {
+        return places(random);
+    }
+    let n = count(random, 128);
+    let few = 1 + random.below(4) as i64;
+    let step = *random.pick(&[1, 1, 7, 60]);
+    let line = (random.below(7) as i64 - 3, random.below(7) as i64 - 3);
+    let from = (random.below(9) as i64 - 4, random.below(9) as i64 - 4);
+    let along = |random: &mut Random| random.below(2 * n + 1) as i64 - n as i64;
+    let twins = random.one_in(10);
+    let mut all = Vec::new();
+    for _ in 0..n {
+        let (x, y) = match form {
+            0 => (along(random), random.below(few as usize) as i64),
+            1 => (random.below(few as usize) as i64, along(random)),
+            2 => (random.below(12) as i64, random.below(12) as i64),
+            _ if random.one_in(8) => (along(random), along(random)),
+            _ => {
+                let t = along(random);
+                (from.0 + t * line.0, from.1 + t * line.1)
+            }
+        };
+        let place = ((x * step).clamp(-10_000, 10_000), (y * step).clamp(-10_000, 10_000));
+        if twins || !all.contains(&place) {
+            all.push(place);
+        }
+    }
+    all
+}
+
 /// So many places in general position, all over the range.
 pub fn scattered(n: usize) -> Vec<(i64, i64)> {
     for seed in 1.. {
@@ -84,11 +118,12 @@ fn crossings(random: &mut Random) -> (usize, Vec<usize>) {
 }
 
 fn turns(random: &mut Random) -> (usize, Vec<bool>) {
-    // those of places or of a network, or any
+    // those of places, of places on lines, or of a network, or any
     let from = loop {
-        let sheet = match random.below(3) {
+        let sheet = match random.below(4) {
             0 => Sheet::Places(places(random)),
-            1 => {
+            1 => Sheet::FlatPlaces(flat_places(random)),
+            2 => {
                 let (n, crossings) = crossings(random);
                 Sheet::Crossings(n, crossings)
             }
@@ -115,8 +150,9 @@ fn turns(random: &mut Random) -> (usize, Vec<bool>) {
 pub fn written(sheet: &Sheet) -> Vec<u8> {
     let mut text = String::new();
     match sheet {
-        Sheet::Places(places) => {
-            text += &format!("P\t{}\n", places.len());
+        Sheet::Places(places) | Sheet::FlatPlaces(places) => {
+            let letter = if matches!(sheet, Sheet::Places(_)) { "P" } else { "F" };
+            text += &format!("{letter}\t{}\n", places.len());
             for (x, y) in places {
                 text += &format!("m\t{x}\t{y}\n");
             }
@@ -139,9 +175,10 @@ pub fn written(sheet: &Sheet) -> Vec<u8> {
 
 /// A sheet that keeps its form.
 pub fn sheet(random: &mut Random) -> Vec<u8> {
-    written(&match random.below(3) {
+    written(&match random.below(4) {
         0 => Sheet::Places(places(random)),
-        1 => {
+        1 => Sheet::FlatPlaces(flat_places(random)),
+        2 => {
             let (n, crossings) = crossings(random);
             Sheet::Crossings(n, crossings)
         }
@@ -185,7 +222,7 @@ pub fn damaged(random: &mut Random) -> Vec<u8> {
         text.resize(*random.pick(&[32_768, 32_769, 40_000]), b'm');
     }
     for _ in 0..1 + random.below(3) {
-        let byte = *random.pick(b"0123456789-\t\n\rPWTmctLR l+\x00\xff");
+        let byte = *random.pick(b"0123456789-\t\n\rPFWTmctLR l+\x00\xff");
         let at = random.below(text.len() + 1);
         match random.below(5) {
             0 => text.insert(at, byte),

@@ -54,13 +54,13 @@ fn compare_sheets(sheets: u64, seed: u64, report: impl Fn(&[u8], usize) -> Vec<u
 /// How many histories there were of each system, and what came of their calls.
 #[derive(Default)]
 struct Histories {
-    systems: [usize; 3],
+    systems: [usize; 4],
     layers: [usize; 3],
     calls: usize,
     declined: usize,
 }
 
-/// Histories as scripts of the console: over points, networks and tables, under layers.
+/// Histories as scripts of the console: over points, flat points, networks and tables, under layers.
 /// `given` makes of the words those that are put to both: the program is run without empty words before all others.
 fn compare_histories(histories: u64, seed: u64, given: impl Fn(&str) -> &str, console: impl Fn(&[u8], &str, &[u8], usize) -> Vec<u8>) {
     let mut seen = Histories::default();
@@ -77,8 +77,9 @@ fn compare_histories(histories: u64, seed: u64, given: impl Fn(&str) -> &str, co
         same("a history", case, &[&text[..], words.as_bytes(), b"\n", script.as_bytes()].concat(), &got, wanted.as_bytes());
         let kind = match sheet {
             Sheet::Places(_) => 0,
-            Sheet::Crossings(..) => 1,
-            Sheet::Turns(..) => 2,
+            Sheet::FlatPlaces(_) => 1,
+            Sheet::Crossings(..) => 2,
+            Sheet::Turns(..) => 3,
         };
         seen.systems[kind] += 1;
         seen.layers[(words.matches("mirror").count() + words.matches("rename").count()).min(2)] += 1;
@@ -86,7 +87,8 @@ fn compare_histories(histories: u64, seed: u64, given: impl Fn(&str) -> &str, co
         seen.declined += wanted.lines().filter(|line| line.contains("\tno\t")).count();
     }
     println!("{histories} histories of {} calls, {} of them declined", seen.calls, seen.declined);
-    println!("over points {}, networks {}, tables {}", seen.systems[0], seen.systems[1], seen.systems[2]);
+    let [points, flat_points, networks, tables] = seen.systems;
+    println!("over points {points}, flat points {flat_points}, networks {networks}, tables {tables}");
     println!("under no layer {}, one {}, two {}", seen.layers[0], seen.layers[1], seen.layers[2]);
 }
 

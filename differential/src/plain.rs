@@ -15,6 +15,7 @@ pub fn no<T>(number: u32, places: &[usize]) -> Answer<T> {
 #[derive(Clone, Debug)]
 pub enum Sheet {
     Places(Vec<(i64, i64)>),
+    FlatPlaces(Vec<(i64, i64)>),
     Crossings(usize, Vec<usize>),
     Turns(usize, Vec<bool>),
 }
@@ -70,7 +71,7 @@ pub fn read(text: &[u8]) -> Answer<Sheet> {
     let Some(count) = number(head[1], false) else { return torn(1) };
     let count = count as usize;
     let limit = match head[0] {
-        "P" => 128,
+        "P" | "F" => 128,
         "W" => 32,
         "T" => 24,
         _ => return torn(1),
@@ -79,7 +80,7 @@ pub fn read(text: &[u8]) -> Answer<Sheet> {
         return no(2, &[1]);
     }
     let due = match head[0] {
-        "P" => count,
+        "P" | "F" => count,
         "W" => count * count.saturating_sub(1) / 2,
         _ => count * count.saturating_sub(1) * count.saturating_sub(2) / 6,
     };
@@ -92,7 +93,7 @@ pub fn read(text: &[u8]) -> Answer<Sheet> {
         }
         let fields: Vec<&str> = lines[value + 1].split('\t').collect();
         match (head[0], &fields[..]) {
-            ("P", ["m", x, y]) => {
+            ("P" | "F", ["m", x, y]) => {
                 let (Some(x), Some(y)) = (number(x, true), number(y, true)) else { return torn(at) };
                 if x.abs() > 10_000 || y.abs() > 10_000 {
                     return no(2, &[at]);
@@ -121,6 +122,7 @@ pub fn read(text: &[u8]) -> Answer<Sheet> {
     }
     Ok(match head[0] {
         "P" => Sheet::Places(places),
+        "F" => Sheet::FlatPlaces(places),
         "W" => Sheet::Crossings(count, crossings),
         _ => Sheet::Turns(count, turns),
     })
@@ -185,6 +187,30 @@ pub fn det(p: (i64, i64), q: (i64, i64), r: (i64, i64)) -> i64 {
     (q.0 - p.0) * (r.1 - p.1) - (q.1 - p.1) * (r.0 - p.0)
 }
 
+/// Whether three places turn left among flat points. On one line they do where their order by x and then by y is p, q, r, or one of its cyclic
+/// shifts.
+fn flat_left(p: (i64, i64), q: (i64, i64), r: (i64, i64)) -> bool {
+    let area = det(p, q, r);
+    if area != 0 {
+        return area > 0;
+    }
+    let mut order = [p, q, r];
+    order.sort();
+    [[p, q, r], [q, r, p], [r, p, q]].contains(&order)
+}
+
+/// The first two places that are alike.
+fn twins(places: &[(i64, i64)]) -> Answer<()> {
+    for i in 0..places.len() {
+        for j in i + 1..places.len() {
+            if places[i] == places[j] {
+                return no(4, &[i, j]);
+            }
+        }
+    }
+    Ok(())
+}
+
 /// The incircle determinant of three places seen from c.
 fn circle(c: (i64, i64), p: (i64, i64), q: (i64, i64), r: (i64, i64)) -> i128 {
     let seen = |s: (i64, i64)| {
@@ -243,19 +269,17 @@ pub fn open(sheet: &Sheet) -> Answer<System> {
     match sheet {
         Sheet::Places(places) => {
             let n = places.len();
-            for i in 0..n {
-                for j in i + 1..n {
-                    if places[i] == places[j] {
-                        return no(4, &[i, j]);
-                    }
-                }
-            }
+            twins(places)?;
             for [i, j, k] in triples(n) {
                 if det(places[i], places[j], places[k]) == 0 {
                     return no(5, &[i, j, k]);
                 }
             }
             Ok(System::of(n, 1, |p, q, r| det(places[p], places[q], places[r]) > 0))
+        }
+        Sheet::FlatPlaces(places) => {
+            twins(places)?;
+            Ok(System::of(places.len(), |p, q, r| flat_left(places[p], places[q], places[r])))
         }
         Sheet::Crossings(n, crossings) => {
             let mut wires: Vec<usize> = (0..*n).collect();

@@ -31,6 +31,7 @@ fn told(text: &[u8]) -> Answer<String> {
     let ring = plain::outline(&system, &all);
     let letter = match sheet {
         Sheet::Places(_) => "P",
+        Sheet::FlatPlaces(_) => "F",
         Sheet::Crossings(..) => "W",
         Sheet::Turns(..) => "T",
     };
@@ -46,6 +47,8 @@ fn told(text: &[u8]) -> Answer<String> {
                 Err(fault) => out += &format!("star\t{}", line(&refusal(&fault))),
             }
         }
+    }
+    if let Sheet::Places(places) | Sheet::FlatPlaces(places) = &sheet {
         out += &line(&words_of("tape", &[plain::tape(places, &ring)]));
     }
     Ok(out)

@@ -20,7 +20,7 @@ fn sheet_told(
     let due = kind.due(count);
     // stay three loops: the values of each kind have their own type, and a place is written as two numbers
     match kind {
-        Kind::Points => {
+        Kind::Points | Kind::FlatPoints => {
             for Place { x, y } in places.iter().take(due) {
                 write!(told, " {x},{y}")?;
             }

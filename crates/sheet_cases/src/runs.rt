@@ -86,6 +86,10 @@ fn try_largest(rt: &HostRuntime, score: &mut Score) -> anyhow::Result<()> {
     let places = repeated(heap, "P 128", " -7,9999", 128)?;
     let told = answer(heap, 128, marks.as_bytes())?;
     score.count(rt, "128 marks", &told, &places)?;
+    let marks = repeated(heap, "F\t128\n", "m\t-7\t9999\n", 128)?;
+    let places = repeated(heap, "F 128", " -7,9999", 128)?;
+    let told = answer(heap, 128, marks.as_bytes())?;
+    score.count(rt, "128 flat points", &told, &places)?;
     let wires = repeated(heap, "W\t32\n", "c\t30\n", 496)?;
     let crossings = repeated(heap, "W 32", " 30", 496)?;
     let told = answer(heap, 496, wires.as_bytes())?;
