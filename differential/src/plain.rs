@@ -279,7 +279,7 @@ pub fn open(sheet: &Sheet) -> Answer<System> {
         }
         Sheet::FlatPlaces(places) => {
             twins(places)?;
-            Ok(System::of(places.len(), |p, q, r| flat_left(places[p], places[q], places[r])))
+            Ok(System::of(places.len(), 1, |p, q, r| flat_left(places[p], places[q], places[r])))
         }
         Sheet::Crossings(n, crossings) => {
             let mut wires: Vec<usize> = (0..*n).collect();
