@@ -14,7 +14,9 @@ fn run(rt: &HostRuntime) -> anyhow::Result<()> {
     let _ = args.next();
     let path = args.next().context("no sheet")?;
     let sheet = fs::read(rt, path.as_str())?;
-    let words = args.collect::<Vec<_>>(heap)?;
+    let words = args
+        .skip_while(|word| word.is_empty())
+        .collect::<Vec<_>>(heap)?;
     let layers = words.join(heap, " ")?;
     let mut script = Vec::new(heap);
     rt.stdin().read_to_end(&mut script)?;
