@@ -164,15 +164,14 @@ impl<'a> OfThree for OnCircleWith<'a> {
     }
 
     fn holds(&self, i: usize, j: usize, k: usize) -> bool {
+        // the determinant, which is 0 for c itself, comes before the tests for c, so that what three i, j, k share is worked out once
         let c = self.centre;
-        if i == c || j == c || k == c {
-            return false;
-        }
-        star_determinant(
+        let determinant = star_determinant(
             self.places[c],
             self.places[i],
             self.places[j],
             self.places[k],
-        ) == 0
+        );
+        determinant == 0 && i != c && j != c && k != c
     }
 }
