@@ -1,13 +1,24 @@
 -- Lemmas on the digits that write a number, on a minus, and on bytes that neither writes. They are proved here; the lemmas that the code
 -- cites (`Marks`, `Turnings`) build on them.
-use Rattle.std.specs.Prelude.{◌≡◌, ℕ, zero, suc, ◌-◌, ◌^◌, ◌<◌, ◌≢◌, List, [], ◌∷◌, length, take, drop, ℤ, pos, negsuc, neg_ℤ, Some, None, decimal, Option, MatchOption, slice_index, slice_index_or, refl}
-use Rattle.std.proofs.Common.{sym, ap, subst, ◌∙◌, arith}
+use Rattle.std.specs.Prelude.{◌≡◌, ℕ, zero, suc, ◌+◌, ◌-◌, ◌*◌, ◌^◌, ◌<◌, ◌≤◌, ◌≢◌, List, [], ◌∷◌, ◌++◌, length, take, drop, ℤ, pos, negsuc, neg_ℤ, Some, None, decimal, Option, MatchOption, slice_index, slice_index_or, refl}
+use Rattle.std.proofs.Common.{sym, ap, subst, ◌∙◌, arith, take-append-drop, get_or-take, length-take-le}
+use Rattle.std.proofs.Math.Nat.{sub-zero}
 use Rattle.std.specs.Str.Parse.{AllDigits, digits_value}
 use Rattle.std.specs.Fmt.{signed_decimal}
-use Rattle.std.proofs.lemmas.List.{take_all}
-use Rattle.std.proofs.lemmas.Str.Parse.{IsNumeralModel, numerals_by_value, digit_at, tells_digits}
-use Rattle.std.proofs.lemmas.Fmt.{decimal_digit, decimal_nonempty, digits_decimal, first_decimal, decimal_injective}
+use Rattle.std.proofs.lemmas.List.{drop_more, take_all, take_rest}
+use Rattle.std.specs.Char.{digit_value}
+use Rattle.std.proofs.lemmas.Int.Digits.{digits_more, digits_value_more}
+use Rattle.std.proofs.lemmas.Str.Parse.{IsNumeralModel, numerals_by_value, digit_at, tells_digits, digits_value_short}
+use Rattle.std.proofs.lemmas.Fmt.{decimal_digit, decimal_nonempty, decimal-digits_value, digits_decimal, first_decimal, length-decimal-le, decimal_injective}
 use Rattle.sheet.specs.Fields.{Six, SixSigned, Lacks, Says}
+
+-- a text whose first b stands at i is cut there
+pub cut_here : (bs : List ℕ) (i b : ℕ) → i < length bs → slice_index bs i ≡ b → ((k : ℕ) → k < i → slice_index bs k ≢ b) → Lacks b (take (i - 0) bs) × (bs ≡ take (i - 0) bs ++ b ∷ take (length bs - (i + 1)) (drop (i + 1) bs))
+cut_here bs i b h here before =
+    simp sub-zero (λ k lt e. before k (short k lt) (sym (get_or-take i bs k 0 (short k lt)) ∙ e), sym (take-append-drop i bs) ∙ ap (λ l. take i bs ++ l) (drop_more bs i 0 h ∙ ap (λ y. y ∷ drop (i + 1) bs) here ∙ ap (λ l. b ∷ l) (sym (take_rest bs (i + 1)))))
+  where
+    short : (k : ℕ) → k < length (take i bs) → k < i
+    short k lt = omega (arith, length-take-le i bs (omega arith))
 
 -- the lemmas of `std` on numerals hold of `AllDigits 10` and `digits_value 10`
 pub own : IsNumeralModel (AllDigits 10) (digits_value 10)
@@ -27,6 +38,51 @@ module _ (n : ℕ) (wide : n < 2 ^ 64) (bs : List ℕ) (is : bs ≡ decimal n) w
       go : (m : ℕ) → m ≡ n → length bs ≡ 1
       go zero e = ap length (is ∙ sym (ap decimal e) ∙ decimal_digit 0 (omega arith))
       go (suc m) e = absurd (omega (arith, first_decimal n (omega arith) wide, ap (λ l. slice_index l 0) is))
+
+-- a number of at most six digits has no more of them
+pub written_six : (n : ℕ) → Six n → (bs : List ℕ) → bs ≡ decimal n → length bs ≤ 6
+written_six n six bs is = omega (arith, ap length is, length-decimal-le 6 n (omega arith) (omega arith) (omega arith))
+
+-- digits with no needless zero are what `decimal` writes
+pub written : (bs : List ℕ) → AllDigits 10 bs → 0 < length bs → length bs ≤ 6 → (slice_index bs 0 ≡ 48 → length bs ≡ 1) → Six (digits_value 10 bs) × (bs ≡ decimal (digits_value 10 bs))
+written bs ds some six plain =
+    let small : Six (digits_value 10 bs) = digits_value_short own bs 6 ds six in
+    (small, sym (decimal-digits_value own bs ds some plain (omega arith)))
+
+-- what digits say that are read one after another, over the first i bytes
+pub record Sofar (bs : List ℕ) (i n : ℕ) : Type 0 where
+  pub all : AllDigits 10 (take i bs)
+  pub is : n ≡ digits_value 10 (take i bs)
+
+pub digit_value_at : (bs : List ℕ) (i : ℕ) → AllDigits 10 bs → i < length bs → digit_value (slice_index bs i) < 10
+digit_value_at [] i ds h = absurd (omega arith)
+digit_value_at (b ∷ bs) zero ds h = ds.0
+digit_value_at (b ∷ bs) (suc i) ds h = digit_value_at bs i ds.1 (omega arith)
+
+module _ (bs : List ℕ) (i n : ℕ) (few : length bs ≤ 6) (h : i < length bs) (sofar : Sofar bs i n) where
+  pub sofar_small : n < 100000
+  sofar_small =
+      let small : digits_value 10 (take i bs) < 100000 = digits_value_short own (take i bs) 5 sofar.all (omega (arith, length-take-le i bs (omega arith))) in
+      omega (arith, sofar.is)
+
+  pub sofar_more : (c d : ℕ) → c ≡ slice_index bs i → (digit_value c < 10) × (d ≡ digit_value c) → Sofar bs (i + 1) (n * 10 + d)
+  sofar_more c d here told =
+      record {
+        all = digits_more 10 bs i h sofar.all (subst (λ x. digit_value x < 10) here told.0);
+        is = (λ j. sofar.is j * 10 + (told.1 ∙ ap digit_value here) j) ∙ sym (digits_value_more 10 bs i h);
+      }
+
+pub sofar_all : (bs : List ℕ) (i n : ℕ) → length bs ≤ i → Sofar bs i n → AllDigits 10 bs × (n ≡ digits_value 10 bs)
+sofar_all bs i n h sofar =
+    let whole = take_all i bs h in
+    (subst (AllDigits 10) whole sofar.all, sofar.is ∙ ap (digits_value 10) whole)
+
+-- what is said of bytes as digits with no needless zero is what they say as a number
+pub says_number : (bs : List ℕ) (r : Option ℕ) → 0 < length bs → length bs ≤ 6 → (slice_index bs 0 ≡ 48 → length bs ≡ 1) → MatchOption r (AllDigits 10 bs → ⊥) (λ n. AllDigits 10 bs × (n ≡ digits_value 10 bs)) → Says Six decimal bs r
+says_number bs None some six plain told = λ v few is. told (written_digits v (omega arith) bs is)
+says_number bs (Some n) some six plain told =
+    let w = written bs told.0 some six plain in
+    subst (λ m. Six m × (bs ≡ decimal m)) (sym told.1) w
 
 -- bytes that match `[first, rest @ ..]`, where first is b
 pub front : (bs : List ℕ) (b : ℕ) → 0 < length bs → slice_index bs 0 ≡ b → bs ≡ b ∷ take (length bs - 1) (drop 1 bs)

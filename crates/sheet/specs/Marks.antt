@@ -13,6 +13,9 @@ pub same_mark : (bs x y : List ℕ) (u v : ℤ) → Lacks 9 x × (bs ≡ spelled
 same_mark bs x y u v is six e =
     cut_unique 9 x y (signed_decimal u) (signed_decimal v) is.0 (signed_lacks 9 u (omega arith) six) (ap (drop 2) (sym is.1 ∙ e))
 
+pub mark_is : (bs x y : List ℕ) (u v : ℤ) → bs ≡ spelled (mark x y) → x ≡ signed_decimal u → y ≡ signed_decimal v → bs ≡ spelled (mark (signed_decimal u) (signed_decimal v))
+mark_is bs x y u v e ex ey = e ∙ (λ j. spelled (mark (ex j) (ey j)))
+
 pub mark_whole : (v : Place) → marks.Written 0 v → Lacks 10 (marks.line 0 v)
 mark_whole v w =
     let x = signed_decimal v.x in

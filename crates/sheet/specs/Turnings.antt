@@ -56,14 +56,18 @@ pub triple_rises : (n at : ℕ) → Rises (triple_at n at) (at + 2)
 triple_rises n zero = record { ij = omega arith; jk = omega arith; under = omega arith }
 triple_rises n (suc at) = subst (Rises (triple_at n (suc at))) (omega arith) (rises_after n (triple_at n at) (at + 2) (triple_rises n at))
 
--- a field says the number n, or does not
-pub says_number : (bs : List ℕ) (r : Option ℕ) (n : ℕ) → Says Six decimal bs r → MatchBool (option_eq nat_eq r (Some n)) (Six n × (bs ≡ decimal n)) (Six n → bs ≢ decimal n)
-says_number bs None n none = none n
-says_number bs (Some m) n told = go (m == n) refl
+-- a field that says m is the number n, or is not
+pub says_by : (bs : List ℕ) (m n : ℕ) → Six m × (bs ≡ decimal m) → MatchBool (m == n) (Six n × (bs ≡ decimal n)) (Six n → bs ≢ decimal n)
+says_by bs m n told = go (m == n) refl
   where
     go : (b : Bool) → (m == n) ≡ b → MatchBool b (Six n × (bs ≡ decimal n)) (Six n → bs ≢ decimal n)
     go true e = subst (λ k. Six k × (bs ≡ decimal k)) (eqb-true m n e) told
     go false e = λ six is. eqb-false m n e (decimal_injective m n (omega (arith, told.0)) (omega arith) (sym told.1 ∙ is))
+
+-- a field says the number n, or does not
+pub says_number : (bs : List ℕ) (r : Option ℕ) (n : ℕ) → Says Six decimal bs r → MatchBool (option_eq nat_eq r (Some n)) (Six n × (bs ≡ decimal n)) (Six n → bs ≢ decimal n)
+says_number bs None n none = none n
+says_number bs (Some m) n told = says_by bs m n told
 
 -- the fields that a triple and a turn write hold no tab
 pub turn_parted : (t : Triple) (turn : Turn) → sixes t → Parted (turning (decimal t.i) (decimal t.j) (decimal t.k) turn)
