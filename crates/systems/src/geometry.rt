@@ -164,7 +164,7 @@ impl<'a> OfThree for OnCircleWith<'a> {
     }
 
     fn holds(&self, i: usize, j: usize, k: usize) -> bool {
-        // the determinant, which is 0 for c itself, comes before the tests for c, so that what three i, j, k share is worked out once
+        // the determinant, which is 0 for c itself, comes before the tests for c: what it takes of i and j alone is then worked out once for all k
         let c = self.centre;
         let determinant = star_determinant(
             self.places[c],
