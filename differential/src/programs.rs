@@ -26,11 +26,15 @@ pub fn report(text: &[u8]) -> Vec<u8> {
     printed("report", &[], text)
 }
 
-/// What `console` prints. The words are given as arguments, one each, since the program joins its arguments by spaces.
+/// What `console` prints. The words are given as arguments, one each, since the program joins its arguments by spaces; before every other
+/// script an empty word stands in front of them, which the program passes over.
 pub fn console(text: &[u8], words: &str, script: &[u8]) -> Vec<u8> {
     let file = std::env::temp_dir().join(format!("differential-{}.sheet", std::process::id()));
     std::fs::write(&file, text).expect("the sheet is written");
     let mut arguments = vec![file.to_str().expect("a path in UTF-8")];
+    if script.len() % 2 == 1 {
+        arguments.push("");
+    }
     if !words.is_empty() {
         arguments.extend(words.split(' '));
     }
